@@ -1,0 +1,11 @@
+-- Arithmetic on whole numbers, for the proofs of every other crate.
+pub mod Laws
+pub mod Ring
+pub mod Order
+pub mod Linear
+pub mod Omega
+pub mod Sums
+pub mod Extremes
+pub mod Products
+pub mod Machine
+pub mod Uses
