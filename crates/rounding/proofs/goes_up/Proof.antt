@@ -1,0 +1,27 @@
+-- `rounding::goes_up` meets its contract: the code compares r with half of d, rounded up.
+use mathlib.Core.Path.{sym, ap, _∙_}
+use mathlib.Core.Bool.{cond}
+use native.Mathlib.Omega.{arith}
+use lib.IntN.{pos}
+use Rattle.rounding.proofs.Half.{made-fits, serves-up}
+use Rattle.rounding.proofs.goes_up.Statement.{statement}
+use Rattle.rounding.proofs.goes_up.Tie as tie
+
+div-if1 : tie.Need-div-if1
+div-if1 c = (omega arith, made-fits (c .args .d) (c .pre) (c .fits .d))
+
+sub-if1 : tie.Need-sub-if1
+sub-if1 c = serves-up (c .args .d) (c .pre) (c .fits .d) .fits
+
+returns : tie.Need-returns
+returns c =
+    let s = c .before in
+    ap (λ b. cond b (pos 0) (pos 1)) (sym (c .if1 .taken) ∙ serves-up (s .args .d) (s .pre) (s .fits .d) .test (s .args .r) (s .fits .r))
+
+returns-2 : tie.Need-returns-2
+returns-2 c =
+    let s = c .before in
+    ap (λ b. cond b (pos 0) (pos 1)) (sym (c .if1 .left) ∙ serves-up (s .args .d) (s .pre) (s .fits .d) .test (s .args .r) (s .fits .r))
+
+pub goes-up-spec : {M : Type 1} → statement M
+goes-up-spec = tie.close (tie.spec div-if1 sub-if1 returns returns-2)
