@@ -1,0 +1,34 @@
+-- How a call's number is found after reading (01, Named numbers). Every call's definition is a chain of these in the table's order.
+use mathlib.Core.Bool.{Bool, true, false}
+use mathlib.Core.List.{[]}
+use Rattle.sheet.specs.Answers.{Told, refused}
+use Rattle.sheet.specs.declared.Refusal.{Refusal}
+use Rattle.sheet.specs.declared.Refusal.the-variants.{Torn}
+use Rattle.sheet.specs.declared.Reading.{Reading}
+use Rattle.sheet.specs.declared.Reading.the-variants as R
+use Rattle.answers.specs.declared.Outcome.{Outcome}
+use Rattle.answers.specs.declared.Outcome.the-variants.{Done, Refused}
+
+-- 01: "it and a step answer only that they are done": no number, no values
+abbrev pub done : Told
+done = record { number = 0; values = [] }
+
+-- the number and values of each outcome
+abbrev pub toldOutcome : Outcome → Told
+toldOutcome Done = done
+toldOutcome (Refused r) = refused r
+
+-- 01: "A call given a refused sheet passes the reader's refusal on."
+abbrev pub passOn : Reading → Told → Told
+passOn (R.Refused r) rest = refused r
+passOn (R.Course k n p) rest = rest
+
+-- the refusal where its test applies, and otherwise the rest
+abbrev pub guard : Bool → Refusal → Told → Told
+guard true r rest = refused r
+guard false r rest = rest
+
+-- what `refusal_of` gives
+abbrev pub refusalOf : Reading → Refusal
+refusalOf (R.Refused r) = r
+refusalOf (R.Course k n p) = Torn

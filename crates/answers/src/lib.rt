@@ -1,0 +1,25 @@
+// What every call after reading shares: its outcome, and the reader's refusal passed on (01, Named numbers). For layout, runner and place.
+use sheet::Reading;
+use sheet::Refusal;
+ghost use mathlib.Core.Path.{_≡_};
+ghost use Rattle.answers.specs.Answers.{refusalOf};
+
+// 01: laying out and a step "answer only that they are done"; or the refusal.
+pub enum Outcome {
+    Done,
+    Refused(Refusal),
+}
+
+// The refusal that a reader's answer carries, for the `else` of a `let .. else`. (Of a course it is never asked.)
+pub fn refusal_of(reading: Reading) -> Refusal
+    ensures { λ r. ⌜ r ≡ refusalOf reading ⌝ }
+{
+    match reading {
+        Reading::Refused(r) => r,
+        Reading::Course {
+            kind: _,
+            points: _,
+            ticks: _,
+        } => Refusal::Torn,
+    }
+}

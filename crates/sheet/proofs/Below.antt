@@ -1,0 +1,66 @@
+-- Laws of the questions and sums over 0, .., n - 1 (specs/Bytes): one more, what an answer tells of each, and bounds.
+use mathlib.Core.Path.{_≡_, refl, ap}
+use mathlib.Core.Bool.{Bool, true, false, _||_, or-true}
+use Prim.Native.Nat.{ℕ, zero, suc, _+_, _*_, _≤_, _<_}
+use native.Mathlib.Numerals.{add-one}
+use native.Mathlib.Omega.{arith}
+use Rattle.integers.proofs.Order.{le-or-lt}
+use Rattle.sheet.specs.Bytes.{anyBelow, sumBelow}
+
+-- ---- one more, as a loop counts
+pub any-step : (p : ℕ → Bool) (n : ℕ) → anyBelow p (n + 1) ≡ (anyBelow p n || p n)
+unfolding anyBelow
+any-step p n = ap (anyBelow p) (add-one n)
+
+pub sum-step : (f : ℕ → ℕ) (n : ℕ) → sumBelow f (n + 1) ≡ sumBelow f n + f n
+unfolding sumBelow
+sum-step f n = ap (sumBelow f) (add-one n)
+
+-- ---- a question
+pub or-left : (a b : Bool) → (a || b) ≡ false → a ≡ false
+or-left true b e = e
+or-left false b e = refl
+
+pub or-right : (a b : Bool) → (a || b) ≡ false → b ≡ false
+or-right true b e = cc
+or-right false b e = e
+
+-- a number below n + 1 is n or below n
+last-or-below : (P : ℕ → Type 0) (n i : ℕ) → i < suc n → (i < n → P i) → P n → P i
+last-or-below P n i h f x = le-or-lt n i (P i) (λ k. let e : n ≡ i = omega arith in rw e at x) f
+
+-- asked of all and not held: it holds of none
+pub any-none : (p : ℕ → Bool) (n : ℕ) → anyBelow p n ≡ false → (i : ℕ) → i < n → p i ≡ false
+unfolding anyBelow
+any-none p zero e i h = absurd (omega arith)
+any-none p (suc n) e i h =
+    last-or-below (λ k. p k ≡ false) n i h (any-none p n (or-left (anyBelow p n) (p n) e) i) (or-right (anyBelow p n) (p n) e)
+
+-- one of which it holds is enough
+pub any-one : (p : ℕ → Bool) (n i : ℕ) → i < n → p i ≡ true → anyBelow p n ≡ true
+unfolding anyBelow
+any-one p zero i h e = absurd (omega arith)
+any-one p (suc n) i h e =
+    le-or-lt n i (anyBelow p (suc n) ≡ true)
+    (λ k. let q : i ≡ n = omega arith in rw (← q, e, or-true))
+    (λ k. rw (any-one p n i k e))
+
+-- ---- a sum
+pub sum-monotone : (f : ℕ → ℕ) (m n : ℕ) → m ≤ n → sumBelow f m ≤ sumBelow f n
+unfolding sumBelow
+sum-monotone f m zero h = let e : m ≡ 0 = omega arith in rw e (omega arith)
+sum-monotone f m (suc n) h =
+    le-or-lt m n (sumBelow f m ≤ sumBelow f (suc n))
+    (λ k. omega (arith, sum-monotone f m n k))
+    (λ k. let e : m ≡ suc n = omega arith in rw e (omega arith))
+
+-- with bounds of each
+pub sum-at-most : (f : ℕ → ℕ) (b n : ℕ) → ((i : ℕ) → i < n → f i ≤ b) → sumBelow f n ≤ n * b
+unfolding sumBelow
+sum-at-most f b zero h = omega arith
+sum-at-most f b (suc n) h = omega (arith, sum-at-most f b n (λ i k. h i (omega arith)), h n (omega arith))
+
+pub sum-at-least : (f : ℕ → ℕ) (b n : ℕ) → ((i : ℕ) → i < n → b ≤ f i) → n * b ≤ sumBelow f n
+unfolding sumBelow
+sum-at-least f b zero h = omega arith
+sum-at-least f b (suc n) h = omega (arith, sum-at-least f b n (λ i k. h i (omega arith)), h n (omega arith))

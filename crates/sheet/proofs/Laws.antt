@@ -1,0 +1,162 @@
+-- The theorems of specs/Theorems: a sheet is read or has exactly one refusal, and an accepted sheet has the bounds that all later arithmetic rests on.
+use mathlib.Core.Path.{_≡_, refl, sym, ap, _∙_, subst}
+use mathlib.Core.Bool.{Bool, true, false}
+use mathlib.Core.List.{List, _∷_}
+use mathlib.Core.Logic.{_⊎_, inl, inr, ⊎-elim}
+use Prim.Native.Nat.{ℕ, suc, _+_, _*_, _≤_, _<_}
+use native.Mathlib.Omega.{arith}
+use borrow.Author.Tests.{ltb-false, eqb-true, not-false}
+use lib.Dec.{ltb, eqb}
+use lib.IntN.{natAbs}
+use lib.ListN.{length}
+use Rattle.ends.specs.Ends.{leastPoints}
+use Rattle.ends.specs.declared.EndKind.{EndKind}
+use Rattle.ends.specs.declared.EndKind.the-variants.{Held}
+use Rattle.integers.proofs.Order.{le-or-lt}
+use Rattle.sheet.specs.Answers.{numberOf, told}
+use Rattle.sheet.specs.Bytes.{anyBelow}
+use Rattle.sheet.specs.Fields.{kind, points, legs, leg, ticks, waypointsFrom, waypoint, slopesFrom, slope, slopeBytes, sheetLength}
+use Rattle.sheet.specs.Reading.{legOutside, reachOutside, slopeOutside, slopesOutside, applies, lowest, mostPoints, readBy, readSheet}
+use Rattle.sheet.specs.Theorems.{Accepted, ReadOrRefused, ReadAccepted, Bounds, AcceptedBounds}
+use Rattle.sheet.specs.declared.Refusal.{Refusal}
+use Rattle.sheet.specs.declared.Refusal.the-variants.{Torn, Edition, Ends, Points, Size, Leg, Reach, Slope}
+use Rattle.sheet.specs.declared.Reading.{Reading}
+use Rattle.sheet.specs.declared.Reading.the-variants.{Course, Refused}
+use Rattle.sheet.proofs.Below.{or-left, or-right, any-none, sum-at-most, sum-at-least}
+use Rattle.sheet.proofs.ByKind.{least-two, legs-at-most, legs-at-least}
+use Rattle.sheet.proofs.Lowest.{past, passed, stopped}
+use Rattle.sheet.proofs.Numbers.{within-size}
+use Rattle.sheet.proofs.Told.{number-injective, number-positive}
+pub use Rattle.sheet.proofs.Told.{told-injective}
+
+-- ---- read or refused: down the chain, each number in its turn applies or is passed
+module _ (s : List ℕ) where
+  -- no number below k applies
+  abbrev Passed : ℕ → Type 0
+  Passed k = (q : Refusal) → numberOf q < k → applies mostPoints s q ≡ false
+
+  pass : (r : Refusal) → Passed (numberOf r) → applies mostPoints s r ≡ false → Passed (suc (numberOf r))
+  pass r p e q h =
+      le-or-lt (numberOf r) (numberOf q) (applies mostPoints s q ≡ false)
+      (λ k. ap (applies mostPoints s) (number-injective q r (omega arith)) ∙ e)
+      (λ k. p q k)
+
+  -- the answer x is that of an accepted sheet, or the lowest number's
+  abbrev Answered : Reading → Type 0
+  Answered x =
+      (Passed 9 × (x ≡ Course (kind s) (points s) (ticks s)))
+      ⊎ ((r : Refusal) × (x ≡ Refused r) × (applies mostPoints s r ≡ true) × Passed (numberOf r))
+
+  ask : (r : Refusal) (rs : List Refusal) → Passed (numberOf r)
+      → (Passed (suc (numberOf r)) → Answered (lowest mostPoints s rs)) → Answered (lowest mostPoints s (r ∷ rs))
+  ask r rs p f = go (applies mostPoints s r) refl
+    where
+      go : (b : Bool) → applies mostPoints s r ≡ b → Answered (lowest mostPoints s (r ∷ rs))
+      go true e = inr (r, sym (stopped s r rs e), e, p)
+      go false e = subst Answered (passed s r rs e) (f (pass r p e))
+
+  answered : Answered (readSheet s)
+  unfolding readBy
+  answered =
+      ask Torn (past 1) (λ q h. absurd (omega (arith, number-positive q))) (λ a.
+      ask Edition (past 2) a (λ b.
+      ask Ends (past 3) b (λ c.
+      ask Points (past 4) c (λ d.
+      ask Size (past 5) d (λ e.
+      ask Leg (past 6) e (λ f.
+      ask Reach (past 7) f (λ g.
+      ask Slope (past 8) g (λ h. inl (h, refl)))))))))
+
+pub read-or-refused : ReadOrRefused
+read-or-refused s =
+    ⊎-elim
+    (λ a. inl ((λ r h. a .0 r (omega arith)), a .1))
+    (λ a. inr (a .0, record { answer = a .1; applying = a .2; lower = a .3 }))
+    (answered s)
+
+pub read-accepted : ReadAccepted
+read-accepted s k n p e =
+    ⊎-elim
+    (λ a. let f = a .1 in (a .0, (cc), (cc), (cc)))
+    (λ a. let f = a .1 .answer in (absurd (let z : _≡_ {A = ℕ} 0 1 = cc in omega arith)))
+    (read-or-refused s)
+
+-- what a caller of the reader learns where it got a course
+pub course-read : (s : List ℕ) (r : Reading) (k : EndKind) (n p : ℕ) → told r ≡ told (readSheet s) → r ≡ Course k n p
+    → Accepted s × (k ≡ kind s) × (n ≡ points s) × (p ≡ ticks s)
+course-read s r k n p e f = read-accepted s k n p (sym (told-injective r (readSheet s) e) ∙ f)
+
+-- the other way: what is accepted is read
+pub accepted-read : (s : List ℕ) → Accepted s → readSheet s ≡ Course (kind s) (points s) (ticks s)
+unfolding readBy
+accepted-read s a = sym (
+    passed s Slope (past 8) (a Slope (omega arith))
+    ∙ passed s Reach (past 7) (a Reach (omega arith))
+    ∙ passed s Leg (past 6) (a Leg (omega arith))
+    ∙ passed s Size (past 5) (a Size (omega arith))
+    ∙ passed s Points (past 4) (a Points (omega arith))
+    ∙ passed s Ends (past 3) (a Ends (omega arith))
+    ∙ passed s Edition (past 2) (a Edition (omega arith))
+    ∙ passed s Torn (past 1) (a Torn (omega arith))
+    )
+
+-- ---- the bounds: each is what the test of its number leaves
+module _ (s : List ℕ) (a : Accepted s) where
+  enough : leastPoints (kind s) ≤ points s
+  enough = ltb-false (points s) (leastPoints (kind s)) (or-left (ltb (points s) (leastPoints (kind s))) (ltb mostPoints (points s)) (a Points (omega arith)))
+
+  few : points s ≤ mostPoints
+  few = ltb-false mostPoints (points s) (or-right (ltb (points s) (leastPoints (kind s))) (ltb mostPoints (points s)) (a Points (omega arith)))
+
+  size : length s ≡ sheetLength (kind s) (points s)
+  size = let formula = sheetLength (kind s) (points s) in eqb-true (length s) formula (not-false (eqb (length s) formula) (a Size (omega arith)))
+
+  leg-within : (i : ℕ) → i < legs s → legOutside (leg s i) ≡ false
+  leg-within = any-none (λ i. legOutside (leg s i)) (legs s) (a Leg (omega arith))
+
+  leg-low : (i : ℕ) → i < legs s → 1 ≤ leg s i
+  leg-low i h = ltb-false (leg s i) 1 (or-left (ltb (leg s i) 1) (ltb 256 (leg s i)) (leg-within i h))
+
+  leg-high : (i : ℕ) → i < legs s → leg s i ≤ 256
+  leg-high i h = ltb-false 256 (leg s i) (or-right (ltb (leg s i) 1) (ltb 256 (leg s i)) (leg-within i h))
+
+  reach : (axis i : ℕ) → axis < 3 → i < points s → natAbs (waypoint s axis i) ≤ 1_000_000
+  reach axis i h k =
+      let none = any-none (λ j. anyBelow (λ x. reachOutside x (waypoint s x j)) 3) (points s) (a Reach (omega arith)) i k in
+      within-size 1_000_000 (waypoint s axis i) (any-none (λ x. reachOutside x (waypoint s x i)) 3 none axis h)
+
+  slope-within : (axis side : ℕ) → axis < 3 → side < 2 → kind s ≡ Held → natAbs (slope s axis side) ≤ 5_000
+  slope-within axis side h k e =
+      let held = sym (ap (λ (j : EndKind). slopesOutside j s) e) ∙ a Slope (omega arith) in
+      let none = any-none (λ y. anyBelow (λ x. slopeOutside (slope s x y)) 3) 2 held side k in
+      within-size 5_000 (slope s axis side) (any-none (λ x. slopeOutside (slope s x side)) 3 none axis h)
+
+  some-ticks : 1 ≤ ticks s
+  some-ticks = omega (arith, enough, least-two (kind s), legs-at-least (kind s) (points s), sum-at-least (leg s) 1 (legs s) leg-low)
+
+  few-ticks : ticks s ≤ 131_072
+  few-ticks = omega (arith, few, legs-at-most (kind s) (points s), sum-at-most (leg s) 256 (legs s) leg-high)
+
+pub accepted-bounds : AcceptedBounds
+accepted-bounds s a = record {
+  enough = enough s a;
+  few = few s a;
+  size = size s a;
+  leg-low = leg-low s a;
+  leg-high = leg-high s a;
+  reach = reach s a;
+  slope = slope-within s a;
+  some-ticks = some-ticks s a;
+  few-ticks = few-ticks s a;
+}
+
+-- ---- where the fields stand: each lies within an accepted sheet, so that the code may read it
+module _ (s : List ℕ) (b : Bounds s) where
+  pub leg-inside : (i : ℕ) → i < legs s → 8 + 2 * i + 2 ≤ length s
+  leg-inside i h = omega (arith, b .size)
+
+  pub waypoint-inside : (axis i : ℕ) → axis < 3 → i < points s → waypointsFrom s + 12 * i + 4 * axis + 4 ≤ length s
+  waypoint-inside axis i h k = omega (arith, b .size)
+
+  pub slope-inside : (axis side : ℕ) → axis < 3 → side < 2 → kind s ≡ Held → slopesFrom s + 12 * side + 4 * axis + 4 ≤ length s
+  slope-inside axis side h k e = omega (arith, b .size, ap slopeBytes e)

@@ -1,0 +1,67 @@
+-- The paper's numbers and values tell an answer whole, so that a promise through `told` (specs/Answers) is one about the answer itself.
+use mathlib.Core.Path.{_≡_, refl, sym, ap, _∙_}
+use mathlib.Core.List.{List, [], _∷_}
+use Prim.Native.Nat.{ℕ, _-_, _≤_}
+use native.Mathlib.Omega.{arith}
+use lib.IntN.{ℤ, pos}
+use lib.ListN.{getD}
+use Rattle.ends.specs.Ends.{kindNumber}
+use Rattle.ends.specs.declared.EndKind.{EndKind}
+use Rattle.ends.specs.declared.EndKind.the-variants.{Free, Held, Closed}
+use Rattle.integers.proofs.Order.{le-or-lt}
+use Rattle.sheet.specs.Answers.{numberOf, told, Told}
+use Rattle.sheet.specs.Fields.{kindOf}
+use Rattle.sheet.specs.declared.Refusal.{Refusal}
+use Rattle.sheet.specs.declared.Refusal.the-variants.{Torn, Edition, Ends, Points, Size, Leg, Reach, Slope, Shelf, Past, Adrift, Bend, Landed}
+use Rattle.sheet.specs.declared.Reading.{Reading}
+use Rattle.sheet.specs.declared.Reading.the-variants.{Course, Refused}
+
+-- ---- back from a number
+refusalOf : ℕ → Refusal
+refusalOf n =
+    getD (Torn ∷ Edition ∷ Ends ∷ Points ∷ Size ∷ Leg ∷ Reach ∷ Slope ∷ Shelf ∷ Past ∷ Adrift ∷ Bend ∷ Landed ∷ []) (n - 1) Torn
+
+refusal-back : (r : Refusal) → refusalOf (numberOf r) ≡ r
+unfolding refusalOf
+refusal-back Torn = refl
+refusal-back Edition = refl
+refusal-back Ends = refl
+refusal-back Points = refl
+refusal-back Size = refl
+refusal-back Leg = refl
+refusal-back Reach = refl
+refusal-back Slope = refl
+refusal-back Shelf = refl
+refusal-back Past = refl
+refusal-back Adrift = refl
+refusal-back Bend = refl
+refusal-back Landed = refl
+
+pub number-injective : (q r : Refusal) → numberOf q ≡ numberOf r → q ≡ r
+number-injective q r e = sym (refusal-back q) ∙ ap refusalOf e ∙ refusal-back r
+
+pub number-positive : (r : Refusal) → 1 ≤ numberOf r
+unfolding refusalOf
+number-positive r =
+    le-or-lt 1 (numberOf r) (1 ≤ numberOf r) (λ h. h)
+    (λ h. let z : numberOf r ≡ 0 = omega arith in let o : numberOf r ≡ 1 = ap numberOf (sym (refusal-back r) ∙ ap refusalOf z) in absurd (omega arith))
+
+kind-back : (k : EndKind) → kindOf (kindNumber k) ≡ k
+kind-back Free = refl
+kind-back Held = refl
+kind-back Closed = refl
+
+pub kind-injective : (j k : EndKind) → kindNumber j ≡ kindNumber k → j ≡ k
+kind-injective j k e = sym (kind-back j) ∙ ap kindOf e ∙ kind-back k
+
+-- ---- an answer
+values-injective : (j k : EndKind) (m n p q : ℕ)
+    → _≡_ {A = List ℤ} (pos (kindNumber j) ∷ pos m ∷ pos p ∷ []) (pos (kindNumber k) ∷ pos n ∷ pos q ∷ []) → Course j m p ≡ Course k n q
+values-injective j k m n p q e =
+    let kinds : kindNumber j ≡ kindNumber k = cc in let is : j ≡ k = kind-injective j k kinds in cc
+
+pub told-injective : (a b : Reading) → told a ≡ told b → a ≡ b
+told-injective (Course j m p) (Course k n q) e = values-injective j k m n p q (ap (λ (t : Told). t .values) e)
+told-injective (Course j m p) (Refused r) e = let v = ap (λ (t : Told). t .values) e in cc
+told-injective (Refused q) (Course k n p) e = let v = ap (λ (t : Told). t .values) e in cc
+told-injective (Refused q) (Refused r) e = ap Refused (number-injective q r (ap (λ (t : Told). t .number) e))

@@ -1,0 +1,111 @@
+-- `sheet::reader::read_body` meets its contract: each part of the walk answers one of the definition's questions, and what does not apply is passed.
+use mathlib.Core.Path.{_≡_, sym, ap, _∙_}
+use mathlib.Core.List.{List}
+use Prim.Native.Nat.{ℕ, _+_, _*_, _≤_}
+use native.Mathlib.Omega.{arith}
+use borrow.Author.Needs.{needs}
+use Rattle.ends.specs.Ends.{legCount}
+use Rattle.ends.specs.declared.EndKind.{EndKind}
+use Rattle.sheet.specs.Bytes.{anyBelow, sumBelow}
+use Rattle.sheet.specs.Fields.{legs, leg, ticks, waypoint}
+use Rattle.sheet.specs.Reading.{legOutside, reachOutside, slopesOutside, applies, mostPoints, lowest}
+use Rattle.sheet.specs.declared.Refusal.the-variants.{Leg, Reach, Slope}
+use Rattle.sheet.specs.declared.Reading.the-variants.{Course}
+use Rattle.sheet.proofs.ByKind.{legs-at-most}
+use Rattle.sheet.proofs.Lowest.{past, passed, stopped}
+use Rattle.sheet.proofs.reader.read_body.Statement.{statement}
+use Rattle.sheet.proofs.reader.read_body.Tie as tie
+
+module _ (c : tie.After-leg-count) where
+  abbrev S : List ℕ
+  S = c .before .before .args .s .now
+
+  is-legs : c .leg-count .result ≡ legs S
+  is-legs = let pre = c .before .before .pre in c .leg-count .ensures ∙ (λ i. legCount (pre .0 i) (pre .1 i))
+
+  few : c .leg-count .result ≤ c .before .before .args .n
+  few = omega (arith, c .leg-count .ensures, legs-at-most (c .before .before .args .kind) (c .before .before .args .n))
+
+-- the answers, as the definition asks
+asks-leg : (c : tie.After-add-legs) → c .add-legs .result .outside ≡ applies mostPoints (S (c .before)) Leg
+asks-leg c = c .add-legs .ensures .1 ∙ ap (anyBelow (λ i. legOutside (leg (S (c .before)) i))) (is-legs (c .before))
+
+asks-reach : (c : tie.After-waypoints-beyond) → c .waypoints-beyond .result ≡ applies mostPoints (S (c .before .before .before)) Reach
+asks-reach c =
+    let p = c .before .before .before in
+    c .waypoints-beyond .ensures ∙ ap (anyBelow (λ i. anyBelow (λ axis. reachOutside axis (waypoint (S p) axis i)) 3)) (p .before .before .pre .1)
+
+asks-slope : (c : tie.After-slopes-beyond) → c .slopes-beyond .result ≡ applies mostPoints (S (c .before .before .before .before .before)) Slope
+asks-slope c =
+    let p = c .before .before .before .before .before in
+    c .slopes-beyond .ensures ∙ ap (λ (k : EndKind). slopesOutside k (S p)) (p .before .before .pre .0)
+
+-- what is left after a test
+leg-passed : (c : tie.Else1) → let s = S (c .before .before) in lowest mostPoints s (past 6) ≡ lowest mostPoints s (past 5)
+leg-passed c = passed (S (c .before .before)) Leg (past 6) (sym (asks-leg (c .before)) ∙ c .if1 .left)
+
+reach-passed : (c : tie.Else2) → let s = S (c .before .before .before .before) in lowest mostPoints s (past 7) ≡ lowest mostPoints s (past 5)
+reach-passed c =
+    passed (S (c .before .before .before .before)) Reach (past 7) (sym (asks-reach (c .before)) ∙ c .if2 .left) ∙ leg-passed (c .before .before)
+
+leg-count-requires : tie.Need-leg-count-requires
+leg-count-requires c κs = search needs
+
+add-legs-requires : tie.Need-add-legs-requires
+add-legs-requires c κs = (omega (arith, c .leg-count .ensures), omega (arith, few c))
+
+returns : tie.Need-returns
+returns c = stopped (S (c .before .before)) Leg (past 6) (sym (asks-leg (c .before)) ∙ c .if1 .taken)
+
+mul-from : tie.Need-mul-from
+mul-from c = search needs
+
+add-from : tie.Need-add-from
+add-from c = search needs
+
+waypoints-beyond-requires : tie.Need-waypoints-beyond-requires
+waypoints-beyond-requires c κs = (ap (λ (m : ℕ). 8 + 2 * m) (is-legs (c .before .before)), omega (arith, c .before .before .leg-count .ensures))
+
+returns-2 : tie.Need-returns-2
+returns-2 c =
+    let s = S (c .before .before .before .before) in
+    stopped s Reach (past 7) (sym (asks-reach (c .before)) ∙ c .if2 .taken) ∙ leg-passed (c .before .before)
+
+mul-slopes-beyond : tie.Need-mul-slopes-beyond
+mul-slopes-beyond c = search needs
+
+add-slopes-beyond : tie.Need-add-slopes-beyond
+add-slopes-beyond c = search needs
+
+slopes-beyond-requires : tie.Need-slopes-beyond-requires
+slopes-beyond-requires c κs =
+    let p = c .before .before .before .before in
+    ((λ i. 8 + 2 * is-legs p i + 12 * p .before .before .pre .1 i), omega (arith, p .leg-count .ensures))
+
+returns-3 : tie.Need-returns-3
+returns-3 c =
+    let s = S (c .before .before .before .before .before .before) in
+    stopped s Slope (past 8) (sym (asks-slope (c .before)) ∙ c .if3 .taken) ∙ reach-passed (c .before .before)
+
+returns-4 : tie.Need-returns-4
+returns-4 c =
+    let a = c .before .before .before .before .before in let p = a .before in let s = S p in let pre = p .before .before .pre in
+    let total : a .add-legs .result .ticks ≡ ticks s = a .add-legs .ensures .0 ∙ ap (sumBelow (leg s)) (is-legs p) in
+    (λ i. Course (pre .0 i) (pre .1 i) (total i)) ∙ passed s Slope (past 8) (sym (asks-slope (c .before)) ∙ c .if3 .left) ∙ reach-passed (c .before .before)
+
+pub read-body-spec : {M : Type 1} → statement M
+read-body-spec =
+    tie.close
+    (tie.spec
+    leg-count-requires
+    add-legs-requires
+    returns
+    mul-from
+    add-from
+    waypoints-beyond-requires
+    returns-2
+    mul-slopes-beyond
+    add-slopes-beyond
+    slopes-beyond-requires
+    returns-3
+    returns-4)

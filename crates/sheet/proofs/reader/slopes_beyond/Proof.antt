@@ -1,0 +1,67 @@
+-- `sheet::reader::slopes_beyond` meets its contract: the definition's line for the kind; a held course has two sides.
+use mathlib.Core.Path.{_≡_, _∙_, ap, sym}
+use mathlib.Core.Bool.{Bool, _||_}
+use mathlib.Core.List.{List}
+use Prim.Native.Nat.{ℕ, _+_, _*_}
+use native.Mathlib.Nat.{add-zero}
+use native.Mathlib.Omega.{arith}
+use borrow.Author.Needs.{needs}
+use Rattle.ends.specs.declared.EndKind.{EndKind}
+use Rattle.ends.specs.declared.EndKind.the-variants.{Held}
+use Rattle.sheet.specs.Bytes.{be32, signed32, anyBelow}
+use Rattle.sheet.specs.Fields.{slopeBytes, slopesFrom}
+use Rattle.sheet.specs.Reading.{slopeOutside, slopesOutside}
+use Rattle.sheet.proofs.reader.slopes_beyond.Statement.{statement}
+use Rattle.sheet.proofs.reader.slopes_beyond.Tie as tie
+
+-- one side's slopes
+abbrev side : List ℕ → ℕ → Bool
+side s at = anyBelow (λ axis. slopeOutside (signed32 (be32 s (at + 4 * axis)))) 3
+
+held : (s : List ℕ) (from : ℕ) {a b : Bool} → from ≡ slopesFrom s → a ≡ side s from → b ≡ side s (from + 12) → (a || b) ≡ slopesOutside Held s
+unfolding anyBelow
+held s from e p q = let o = e ∙ sym (add-zero (slopesFrom s)) in (λ i. p i || q i) ∙ (λ i. side s (o i) || side s (e i + 12))
+
+enum-told : tie.Need-enum-told
+enum-told c = search needs
+
+enum-told-2 : tie.Need-enum-told-2
+enum-told-2 c = search needs
+
+side-beyond-requires : tie.Need-side-beyond-requires
+side-beyond-requires c κs = omega (arith, ap slopeBytes (c .enum-told2 .given .1))
+
+add-side-beyond : tie.Need-add-side-beyond
+add-side-beyond c = search needs
+
+side-beyond-requires-2 : tie.Need-side-beyond-requires-2
+side-beyond-requires-2 c κs = omega (arith, ap slopeBytes (c .before .enum-told2 .given .1))
+
+enum-told-3 : tie.Need-enum-told-3
+enum-told-3 c = search needs
+
+returns : tie.Need-returns
+returns c = search needs
+
+returns-2 : tie.Need-returns-2
+returns-2 c =
+    let start = c .before .before .before .before .before in let s = start .args .s .now in
+    held s (start .args .from) (start .pre .0) (c .before .side-beyond .ensures) (c .side-beyond2 .ensures)
+    ∙ ap (λ (k : EndKind). slopesOutside k s) (sym (c .before .before .enum-told2 .given .1))
+
+returns-3 : tie.Need-returns-3
+returns-3 c = search needs
+
+pub slopes-beyond-spec : {M : Type 1} → statement M
+slopes-beyond-spec =
+    tie.close
+    (tie.spec
+    enum-told
+    enum-told-2
+    side-beyond-requires
+    add-side-beyond
+    side-beyond-requires-2
+    enum-told-3
+    returns
+    returns-2
+    returns-3)

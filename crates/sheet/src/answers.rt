@@ -1,0 +1,25 @@
+// The paper's number of a refusal, for programs that tell it (01, Named numbers).
+ghost use mathlib.Core.Path.{_≡_};
+ghost use Rattle.sheet.specs.Answers.{numberOf};
+use crate::Refusal;
+
+// 01's table, number by number.
+pub fn number_of(refusal: Refusal) -> u64
+    ensures { λ r. ⌜ r ≡ numberOf refusal ⌝ }
+{
+    match refusal {
+        Refusal::Torn => 1,
+        Refusal::Edition => 2,
+        Refusal::Ends => 3,
+        Refusal::Points => 4,
+        Refusal::Size => 5,
+        Refusal::Leg => 6,
+        Refusal::Reach => 7,
+        Refusal::Slope => 8,
+        Refusal::Shelf => 9,
+        Refusal::Past => 10,
+        Refusal::Adrift => 11,
+        Refusal::Bend => 12,
+        Refusal::Landed => 13,
+    }
+}
