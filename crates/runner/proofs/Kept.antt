@@ -1,0 +1,68 @@
+-- A step's number tells whether the runner moved: 0 only where the answer is the runner moved on. For the step over a lent record.
+use mathlib.Core.Path.{_≡_, refl, sym, ap, _∙_}
+use mathlib.Core.Bool.{Bool, true, false, cond}
+use mathlib.Core.List.{List}
+use Prim.Native.Nat.{ℕ}
+use native.Mathlib.Omega.{arith}
+use lib.IntN.{pos, natAbs}
+use lib.ListN.{getD}
+use borrow.Author.Tests.{eq-eqb, ne-eqb}
+use Rattle.answers.specs.Answers.{done, passOn, guard}
+use Rattle.sheet.proofs.Told.{number-positive}
+use Rattle.sheet.specs.Answers.{Told, refused}
+use Rattle.sheet.specs.Reading.{readSheet}
+use Rattle.sheet.specs.declared.Reading.{Reading}
+use Rattle.sheet.specs.declared.Reading.the-variants as R
+use Rattle.sheet.specs.declared.Refusal.{Refusal}
+use Rattle.sheet.specs.declared.Refusal.the-variants.{Adrift, Landed}
+use Rattle.runner.specs.Ticks.{runner, found}
+use Rattle.runner.specs.Steps.{adrift, landed, moved, stepped, stepAnswer, onward}
+use Rattle.runner.specs.declared.Runner.{Runner}
+
+never-zero : (q : Refusal) {X : Type 0} → refused q .number ≡ 0 → X
+never-zero q e = absurd (omega (arith, number-positive q))
+
+passed : (answer : Reading) (rest : Told) → passOn answer rest .number ≡ 0 → passOn answer rest ≡ rest
+passed (R.Refused q) rest e = never-zero q e
+passed (R.Course k n p) rest e = refl
+
+guarded : (b : Bool) (q : Refusal) (rest : Told) → guard b q rest .number ≡ 0 → guard b q rest ≡ rest
+guarded true q rest e = never-zero q e
+guarded false q rest e = refl
+
+-- no number applies: the answer is the runner moved on
+moved-when-done : (s : List ℕ) (r : Runner) → stepped s r .number ≡ 0 → stepped s r ≡ found (moved s r)
+unfolding stepped
+moved-when-done s r e =
+    let rest = guard (landed s r) Landed (found (moved s r)) in
+    let p = passed (readSheet s) (guard (adrift s r) Adrift rest) e in
+    let q = guarded (adrift s r) Adrift rest (ap (λ (t : Told). t .number) (sym p) ∙ e) in
+    let l = guarded (landed s r) Landed (found (moved s r)) (ap (λ (t : Told). t .number) (sym (p ∙ q)) ∙ e) in
+    p ∙ q ∙ l
+
+-- two runners that are told alike are the same
+found-injective : (a b : Runner) → found a ≡ found b → a ≡ b
+found-injective a b e =
+    let x : a .leg ≡ b .leg = ap (λ (t : Told). natAbs (getD (t .values) 0 (pos 0))) e in
+    let y : a .offset ≡ b .offset = ap (λ (t : Told). natAbs (getD (t .values) 1 (pos 0))) e in
+    λ i. runner (x i) (y i)
+
+module _ (s : List ℕ) (r : Runner) where
+  answer-by : (t : Told) → t ≡ stepped s r → record { number = t .number; values = done .values } ≡ stepAnswer s r
+  unfolding stepAnswer
+  answer-by t e = ap (λ (u : Told). record { number = u .number; values = done .values }) e
+
+  -- the step answered the runner `next`
+  pub kept-moved : (next : Runner) → found next ≡ stepped s r → (done ≡ stepAnswer s r) × (runner (next .leg) (next .offset) ≡ onward s r)
+  unfolding onward
+  kept-moved next e =
+      let zero-number : stepped s r .number ≡ 0 = ap (λ (t : Told). t .number) (sym e) in
+      let same : next ≡ moved s r = found-injective next (moved s r) (e ∙ moved-when-done s r zero-number) in
+      (answer-by (found next) e, same ∙ sym (ap (λ (b : Bool). cond b (moved s r) r) (eq-eqb (stepped s r .number) 0 zero-number)))
+
+  -- the step was refused
+  pub kept-refused : (q : Refusal) → refused q ≡ stepped s r → (refused q ≡ stepAnswer s r) × (r ≡ onward s r)
+  unfolding onward
+  kept-refused q e =
+      let some : stepped s r .number ≡ 0 → ⊥ = λ z. never-zero q (ap (λ (t : Told). t .number) e ∙ z) in
+      (answer-by (refused q) e, sym (ap (λ (b : Bool). cond b (moved s r) r) (ne-eqb (stepped s r .number) 0 some)))

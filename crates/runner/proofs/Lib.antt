@@ -1,0 +1,7 @@
+-- The walk along the legs; where a runner stands; the step, and any count of steps; then what the code rests on, a call's first step, and the step over a lent record.
+pub mod Walk
+pub mod Standing
+pub mod Onward
+pub mod Room
+pub mod Entry
+pub mod Kept

@@ -1,0 +1,33 @@
+-- `runner::steps::step_kept` meets its contract: what `step_at` tells decides outcome and record together.
+use mathlib.Core.Path.{sym, ap, _∙_}
+use borrow.Author.Needs.{needs}
+use Rattle.runner.specs.Ticks.{runner, toldRunner}
+use Rattle.runner.proofs.Kept.{kept-moved, kept-refused}
+use Rattle.runner.proofs.steps.step_kept.Statement.{statement}
+use Rattle.runner.proofs.steps.step_kept.Tie as tie
+use Rattle.runner.proofs.steps.step_kept.Reads as reads
+use Rattle.runner.proofs.steps.step_kept.Lts as lts
+
+step-at-requires : tie.Need-step-at-requires
+step-at-requires c κs = search needs
+
+enum-known-next : tie.Need-enum-known-next
+enum-known-next c = search needs
+
+enum-known-r : tie.Need-enum-known-r
+enum-known-r c = search needs
+
+returns : tie.Need-returns
+returns c =
+    let a = c .before .before .before .before .before .args in
+    kept-moved (a .s .now) (runner (a .leg) (a .offset)) (c .before .next .given .0 .0)
+    (ap toldRunner (sym (c .before .next .given .1)) ∙ c .before .before .before .step-at .ensures)
+
+returns-2 : tie.Need-returns-2
+returns-2 c =
+    let a = c .before .before .before .before .before .args in
+    kept-refused (a .s .now) (runner (a .leg) (a .offset)) (c .before .r .given .0 .0)
+    (ap toldRunner (sym (c .before .r .given .1)) ∙ c .before .before .before .step-at .ensures)
+
+pub step-kept-spec : {M : Type 1} → statement M
+step-kept-spec = tie.close (tie.spec step-at-requires enum-known-next enum-known-r returns returns-2)

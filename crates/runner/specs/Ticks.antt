@@ -1,0 +1,70 @@
+-- The leg and offset that a tick names, and the runner from a tick (01, Places).
+use mathlib.Core.Path.{_≡_}
+use mathlib.Core.Bool.{Bool, true, false, cond, _&&_}
+use mathlib.Core.List.{List, [], _∷_}
+use Prim.Native.Nat.{ℕ, zero, suc, _+_, _-_, _%_}
+use lib.Dec.{ltb}
+use lib.IntN.{pos}
+use Rattle.ends.specs.declared.EndKind.{EndKind}
+use Rattle.ends.specs.declared.EndKind.the-variants.{Free, Held, Closed}
+use Rattle.sheet.specs.Answers.{Told, refused}
+use Rattle.sheet.specs.Bytes.{sumBelow}
+use Rattle.sheet.specs.Fields.{kind, legs, leg, ticks}
+use Rattle.sheet.specs.Reading.{readSheet}
+use Rattle.sheet.specs.Theorems.{Accepted}
+use Rattle.sheet.specs.declared.Refusal.the-variants.{Past}
+use Rattle.answers.specs.Answers.{passOn, guard}
+use Rattle.runner.specs.declared.Runner.{Runner}
+use Rattle.runner.specs.declared.RunnerAnswer.{RunnerAnswer}
+use Rattle.runner.specs.declared.RunnerAnswer.the-variants.{At, Refused}
+
+-- what a call knows of a sheet that it has read: it is accepted, and k and l are its kind and L
+pub record IsRead (s : List ℕ) (k : EndKind) (l : ℕ) : Type 0 where
+  pub accepted : Accepted s
+  pub is-kind : k ≡ kind s
+  pub is-legs : l ≡ legs s
+
+abbrev pub runner : ℕ → ℕ → Runner
+runner i u = record { leg = i; offset = u }
+
+-- the number and values of each answer: leg and offset
+abbrev pub found : Runner → Told
+found r = record { number = 0; values = pos (r .leg) ∷ pos (r .offset) ∷ [] }
+
+abbrev pub toldRunner : RunnerAnswer → Told
+toldRunner (At r) = found r
+toldRunner (Refused r) = refused r
+
+-- an open course has ends: kinds 0 and 1
+abbrev pub isOpen : EndKind → Bool
+isOpen Free = true
+isOpen Held = true
+isOpen Closed = false
+
+-- 01: "A closed course answers any unsigned 64-bit tick, taken modulo P."
+abbrev pub reduced : EndKind → ℕ → ℕ → ℕ
+reduced Free p t = t
+reduced Held p t = t
+reduced Closed p t = t % p
+
+-- the leg i where it has the tick t, counted from its start, or one of the k legs after it; the last of them in any case.
+-- 01: "A tick on an inner waypoint belongs to the leg that starts there; the last tick of an open course is the last leg at full offset."
+unfoldable pub walk : (ℕ → ℕ) → ℕ → ℕ → ℕ → Runner
+walk h zero i t = runner i t
+walk h (suc k) i t = cond (ltb t (h i)) (runner i t) (walk h k (suc i) (t - h i))
+
+-- the leg and offset that a tick names
+unfoldable pub spotAt : List ℕ → ℕ → Runner
+spotAt s t = walk (leg s) (legs s - 1) 0 (reduced (kind s) (ticks s) t)
+
+-- the tick, from 0, at which a runner stands
+unfoldable pub tickOf : List ℕ → Runner → ℕ
+tickOf s r = sumBelow (leg s) (r .leg) + r .offset
+
+-- number 10: "open course, tick above its last"
+abbrev pub past : List ℕ → ℕ → Bool
+past s t = isOpen (kind s) && ltb (ticks s) t
+
+-- 01: "A runner from a tick tests 1 to 8 and 10."
+unfoldable pub runnerAtTick : List ℕ → ℕ → Told
+runnerAtTick s t = passOn (readSheet s) (guard (past s t) Past (found (spotAt s t)))
