@@ -1,0 +1,50 @@
+-- What `layOut` and `laidOut` are (specs/Layout) where the sheet is refused, where the list is short, and where all is well.
+use mathlib.Core.Path.{_≡_, ap, _∙_}
+use mathlib.Core.Bool.{Bool, cond}
+use mathlib.Core.List.{List, _++_}
+use Prim.Native.Nat.{ℕ, _*_, _≤_, _<_}
+use native.Mathlib.Omega.{arith}
+use borrow.Author.Tests.{lt-ltb, le-ltb, ne-eqb}
+use lib.Dec.{eqb}
+use lib.IntN.{ℤ}
+use lib.ListN.{length, drop}
+use Rattle.ends.specs.declared.EndKind.{EndKind}
+use Rattle.sheet.specs.Answers.{Told, numberOf, refused}
+use Rattle.sheet.specs.Fields.{points}
+use Rattle.sheet.specs.Reading.{readSheet}
+use Rattle.sheet.specs.declared.Refusal.{Refusal}
+use Rattle.sheet.specs.declared.Refusal.the-variants.{Shelf}
+use Rattle.sheet.specs.declared.Reading.{Reading}
+use Rattle.sheet.specs.declared.Reading.the-variants.{Course, Refused}
+use Rattle.sheet.proofs.Told.{number-positive}
+use Rattle.answers.specs.Answers.{done, passOn, guard}
+use Rattle.layout.specs.Layout.{allBends, short, layOut, laidOut}
+
+module _ (s : List ℕ) (room : ℕ) where
+  -- the reader's answer decides first
+  read-decides : (a : Reading) → readSheet s ≡ a → layOut s room ≡ passOn a (guard (short s room) Shelf done)
+  unfolding layOut
+  read-decides a e = ap (λ (x : Reading). passOn x (guard (short s room) Shelf done)) e
+
+  pub refused-answer : (r : Refusal) → readSheet s ≡ Refused r → layOut s room ≡ refused r
+  refused-answer r e = read-decides (Refused r) e
+
+  module _ (k : EndKind) (n p : ℕ) (e : readSheet s ≡ Course k n p) where
+    pub short-answer : room < 3 * points s → layOut s room ≡ refused Shelf
+    short-answer h = read-decides (Course k n p) e ∙ ap (λ (b : Bool). guard b Shelf done) (lt-ltb room (3 * points s) h)
+
+    pub done-answer : 3 * points s ≤ room → layOut s room ≡ done
+    done-answer h = read-decides (Course k n p) e ∙ ap (λ (b : Bool). guard b Shelf done) (le-ltb room (3 * points s) h)
+
+module _ (s : List ℕ) (list : List ℤ) where
+  laid : Told → List ℤ
+  laid t = cond (eqb (t .number) 0) (allBends s ++ drop (3 * points s) list) list
+
+  pub refused-list : (r : Refusal) → layOut s (length list) ≡ refused r → laidOut s list ≡ list
+  unfolding laidOut laid
+  refused-list r e =
+      ap laid e ∙ ap (λ (b : Bool). cond b (allBends s ++ drop (3 * points s) list) list) (ne-eqb (numberOf r) 0 (λ z. omega (arith, number-positive r)))
+
+  pub done-list : layOut s (length list) ≡ done → laidOut s list ≡ allBends s ++ drop (3 * points s) list
+  unfolding laidOut laid
+  done-list e = ap laid e

@@ -1,0 +1,136 @@
+-- The loop of a pass (src/pass.rt) against `sweep` of crate systems: what holds before it, after each turn and at its end, and how large its numbers are.
+use mathlib.Core.Path.{_≡_, refl, sym, _∙_, ap}
+use mathlib.Core.Bool.{Bool, false, not, _||_}
+use mathlib.Core.List.{List}
+use Prim.Native.Nat.{ℕ, suc, _+_, _-_, _≤_, _<_}
+use native.Mathlib.Numerals.{add-one}
+use native.Mathlib.Omega.{arith}
+use borrow.Author.Tests.{eqb-true, not-false}
+use lib.Dec.{eqb}
+use lib.IntN.{ℤ, pos, natAbs, _-ℤ_, _*ℤ_}
+use lib.ListN.{length, set, replicate, length-replicate}
+use lib.Seq.{getD-set-same, set-getD}
+use mir.Syntax.{w64}
+use mir.Val.{toZ, ofZ}
+use Rattle.integers.proofs.Machine.{fits-abs, back}
+use Rattle.ends.specs.declared.EndKind.{EndKind}
+use Rattle.ends.specs.declared.EndKind.the-variants.{Free, Held, Closed}
+use Rattle.rounding.specs.Rounded.{rounded}
+use Rattle.sheet.specs.Fields.{points}
+use Rattle.sheet.proofs.Below.{or-left, or-right}
+use Rattle.systems.specs.Rows.{Row, Rows}
+use Rattle.systems.specs.Passes.{at, target, renewed, sweep, pass}
+use Rattle.systems.proofs.Lists.{step-present, step-absent, sweep-next, length-sweep, length-passes}
+use Rattle.spline.specs.Spline.{Course, next, prev, freeRow, rowOf, rowsBy, rows}
+use Rattle.spline.proofs.Bends.{bends-bounded}
+use Rattle.layout.specs.Course.{course}
+use Rattle.layout.specs.Inside.{OnSheet, HasRow, Reached, Small, skipped, told}
+use Rattle.layout.specs.declared.row.Row as code
+use Rattle.layout.proofs.Made.{read}
+use Rattle.layout.proofs.Given.{two-points, in-bounds}
+use Rattle.layout.proofs.Neighbours.{prev-later}
+use Rattle.layout.proofs.Rows.{row-present, free-start-row, free-end-row}
+
+-- a bend number that is read back
+pub small-kept : (z : ℤ) → Small z → read z ≡ z
+small-kept z h = back refl (fits-abs z (omega arith))
+
+pub skipped-few : (k : EndKind) → skipped k ≤ 1
+skipped-few Free = omega arith
+skipped-few Held = omega arith
+skipped-few Closed = omega arith
+
+-- before the turn at i, of a pass over z₀: it has come as far as i and made z of z₀, `left` is the number before i, and where `changed` is false z is still z₀
+pub record Through (s : List ℕ) (k : EndKind) (n axis : ℕ) (z₀ z : List ℤ) (changed : Bool) (i : ℕ) (left : ℤ) : Type 0 where
+  pub from : skipped k ≤ i
+  pub upto : i + skipped k ≤ n
+  pub swept : z ≡ sweep (rows (course s axis)) 65536 i z₀
+  pub leftIs : left ≡ at z (prev (course s axis) i)
+  pub same : changed ≡ false → z ≡ z₀
+
+module _ {s : List ℕ} {k : EndKind} {n axis : ℕ} (o : OnSheet s k n axis) where
+  abbrev c : Course
+  c = course s axis
+
+  abbrev R : Rows
+  R = rows c
+
+  -- the rows' own kind is the one that the code was told
+  row-is : (i : ℕ) → R .row i ≡ rowOf 2 1 k c i
+  unfolding rowsBy course
+  row-is i = ap (λ (e : EndKind). rowOf 2 1 e c i) (sym (o .sameKind))
+
+  -- what a turn works out is the step's number
+  pub turn-renews : (zs : List ℤ) (i : ℕ) (r : code.Row) (left right : ℤ) → r ≡ told (rowOf 2 1 k c i) → left ≡ at zs (prev c i) → right ≡ at zs (next c i)
+      → rounded (pos 65536 *ℤ r .right -ℤ r .before *ℤ left -ℤ r .after *ℤ right) (natAbs (r .middle)) ≡ renewed R 65536 zs i
+  unfolding target renewed rowsBy
+  turn-renews zs i r left right e l q =
+      let f = e ∙ ap told (sym (row-is i)) in
+      λ j. rounded (pos 65536 *ℤ f j .right -ℤ f j .before *ℤ l j -ℤ f j .after *ℤ q j) (natAbs (f j .middle))
+
+  -- one step further, where there is a row and where there is none
+  sweep-set : (zs : List ℤ) (i : ℕ) → HasRow k n i → sweep R 65536 (i + 1) zs ≡ set (sweep R 65536 i zs) i (renewed R 65536 (sweep R 65536 i zs) i)
+  sweep-set zs i h =
+      ap (λ (m : ℕ). sweep R 65536 m zs) (add-one i) ∙ sweep-next R 65536 i zs
+      ∙ step-present R 65536 (sweep R 65536 i zs) i (ap (λ (r : Row). r .present) (row-is i) ∙ row-present o i h)
+
+  sweep-past : (zs : List ℤ) (i : ℕ) → rowOf 2 1 k c i ≡ freeRow → sweep R 65536 (suc i) zs ≡ sweep R 65536 i zs
+  unfolding freeRow
+  sweep-past zs i e = sweep-next R 65536 i zs ∙ step-absent R 65536 (sweep R 65536 i zs) i (ap (λ (r : Row). r .present) (row-is i ∙ e))
+
+  sweep-start : (e : EndKind) → k ≡ e → (zs : List ℤ) → sweep R 65536 (skipped e) zs ≡ zs
+  unfolding sweep
+  sweep-start Free q zs = sweep-past zs 0 (free-start-row o q)
+  sweep-start Held q zs = refl
+  sweep-start Closed q zs = refl
+
+  sweep-end : (e : EndKind) → k ≡ e → (zs : List ℤ) → sweep R 65536 n zs ≡ sweep R 65536 (n - skipped e) zs
+  sweep-end Free q zs = let m : n ≡ suc (n - 1) = omega (arith, two-points o) in ap (λ (j : ℕ). sweep R 65536 j zs) m ∙ sweep-past zs (n - 1) (free-end-row o q (n - 1) (omega arith))
+  sweep-end Held q zs = ap (λ (j : ℕ). sweep R 65536 j zs) (omega arith)
+  sweep-end Closed q zs = ap (λ (j : ℕ). sweep R 65536 j zs) (omega arith)
+
+  module _ (z₀ : List ℤ) (reached : Reached s axis z₀) where
+    pub start-length : length z₀ ≡ n
+    start-length = ap length (reached .numbers) ∙ length-passes R 65536 (reached .count) (replicate (points s) (pos 0)) ∙ length-replicate (points s) (pos 0) ∙ sym (o .samePoints)
+
+    pub through-start : (i : ℕ) → i ≡ skipped k → (left : ℤ) → left ≡ at z₀ (prev c i) → Through s k n axis z₀ z₀ false i left
+    through-start i e left l = record {
+      from = omega arith;
+      upto = omega (arith, two-points o, skipped-few k);
+      swept = sym (ap (λ (j : ℕ). sweep R 65536 j z₀) e ∙ sweep-start k refl z₀);
+      leftIs = l;
+      same = λ f. refl;
+    }
+
+    module _ {z : List ℤ} {changed : Bool} {i : ℕ} {left : ℤ} (t : Through s k n axis z₀ z changed i left) where
+      pub through-length : length z ≡ n
+      through-length = ap length (t .swept) ∙ length-sweep R 65536 i z₀ ∙ start-length
+
+      pub through-small : (j : ℕ) → j < n → Small (at z j)
+      unfolding course
+      through-small j h =
+          rw (t .swept, reached .numbers)
+          (bends-bounded c (in-bounds o) (reached .count) i j (omega (arith, o .samePoints, t .upto)) (omega (arith, o .samePoints)))
+
+      pub through-end : n - skipped k ≤ i → (z ≡ pass R 65536 z₀) × (changed ≡ false → z ≡ z₀)
+      unfolding pass rowsBy course
+      through-end h =
+          let e : i ≡ n - skipped k = omega (arith, t .upto) in
+          (t .swept ∙ ap (λ (j : ℕ). sweep R 65536 j z₀) e ∙ sym (sweep-end k refl z₀) ∙ ap (λ (j : ℕ). sweep R 65536 j z₀) (o .samePoints), t .same)
+
+      -- a turn sets a number that the machine holds as x
+      pub through-turn : (x : ℤ) → i + skipped k < n → read x ≡ renewed R 65536 z i
+          → Through s k n axis z₀ (set z i (read x)) (changed || not (eqb (ofZ w64 x) (ofZ w64 (at z i)))) (i + 1) (read x)
+      through-turn x h e = record {
+        from = omega (arith, t .from);
+        upto = omega arith;
+        swept = ap (set z i) e ∙ ap (λ (l : List ℤ). set l i (renewed R 65536 l i)) (t .swept) ∙ sym (sweep-set z₀ i (t .from, h));
+        leftIs = sym (getD-set-same z i (read x) (pos 0) (omega (arith, through-length))) ∙ ap (at (set z i (read x))) (is-prev);
+        same = λ f.
+            let a = or-left changed (not (eqb (ofZ w64 x) (ofZ w64 (at z i)))) f in
+            let b = not-false (eqb (ofZ w64 x) (ofZ w64 (at z i))) (or-right changed (not (eqb (ofZ w64 x) (ofZ w64 (at z i)))) f) in
+            ap (set z i) (ap (toZ w64) (eqb-true (ofZ w64 x) (ofZ w64 (at z i)) b) ∙ small-kept (at z i) (through-small i (omega arith))) ∙ set-getD z i (pos 0) ∙ t .same a;
+      }
+        where
+          is-prev : i ≡ prev c (i + 1)
+          is-prev = omega (arith, prev-later c (i + 1) (omega arith))

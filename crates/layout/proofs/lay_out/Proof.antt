@@ -1,0 +1,97 @@
+-- `layout::lay_out` meets its contract: the reader's answer tells whether the sheet is refused or accepted, and then the list's length decides.
+use mathlib.Core.Path.{_≡_, sym, ap, _∙_}
+use mathlib.Core.List.{List, _++_}
+use Prim.Native.Nat.{ℕ, _*_, _<_}
+use native.Mathlib.Omega.{arith}
+use borrow.Author.Needs.{needs}
+use lib.IntN.{ℤ}
+use lib.ListN.{length, drop}
+use Rattle.ends.specs.declared.EndKind.{EndKind}
+use Rattle.sheet.specs.Answers.{refused}
+use Rattle.sheet.specs.Reading.{readSheet}
+use Rattle.sheet.specs.declared.Refusal.the-variants.{Shelf}
+use Rattle.sheet.specs.declared.Reading.the-variants.{Course, Refused}
+use Rattle.sheet.proofs.Told.{told-injective}
+use Rattle.sheet.proofs.Laws.{read-accepted, accepted-bounds}
+use Rattle.answers.specs.Answers.{refusalOf}
+use Rattle.layout.specs.Inside.{OnSheet}
+use Rattle.layout.specs.Layout.{allBends}
+use Rattle.layout.proofs.Given.{few-points}
+use Rattle.layout.proofs.Outcomes.{refused-answer, short-answer, done-answer, refused-list, done-list}
+use Rattle.layout.proofs.lay_out.Statement.{statement}
+use Rattle.layout.proofs.lay_out.Tie as tie
+
+-- where the reader's answer is a course
+module _ (r : tie.After-reading) where
+  abbrev start : tie.Start
+  start = r .before .before .before .before
+
+  abbrev S : List ℕ
+  S = start .args .s .now
+
+  abbrev L : List ℤ
+  L = start .args .list .now
+
+  abbrev k : EndKind
+  k = r .reading .given .0 .0
+
+  abbrev n : ℕ
+  n = r .reading .given .0 .1 .0
+
+  abbrev p : ℕ
+  p = r .reading .given .0 .1 .1 .0
+
+  course : readSheet S ≡ Course k n p
+  course = sym (told-injective (r .before .before .read .result) (readSheet S) (r .before .before .read .ensures)) ∙ r .reading .given .1
+
+  on-sheet : (axis : ℕ) → axis < 3 → OnSheet S k n axis
+  on-sheet axis h =
+      let (accepted, sameKind, samePoints, sameTicks) = read-accepted S k n p course in
+      record { bounds = accepted-bounds S accepted; sameKind = sameKind; samePoints = samePoints; axisFits = h }
+
+read-requires : tie.Need-read-requires
+read-requires c κs = search needs
+
+enum-known-reading : tie.Need-enum-known-reading
+enum-known-reading c = search needs
+
+enum-told : tie.Need-enum-told
+enum-told c = search needs
+
+refusal-of-requires : tie.Need-refusal-of-requires
+refusal-of-requires c κs = search needs
+
+returns : tie.Need-returns
+returns c =
+    let t = c .before in let a = t .before .before in let s = a .before .before in let S = s .args .s .now in let L = s .args .list .now in
+    let r = t .enum-told .given .0 .0 in
+    let e : readSheet S ≡ Refused r = sym (told-injective (a .read .result) (readSheet S) (a .read .ensures)) ∙ t .enum-told .given .1 in
+    let f = refused-answer S (length L) r e in
+    (ap refused (c .refusal-of .ensures ∙ ap refusalOf (t .enum-told .given .1)) ∙ sym f, sym (refused-list S L r f))
+
+mul-if1 : tie.Need-mul-if1
+mul-if1 c = record { fits = omega (arith, few-points (on-sheet (c .before) 0 (omega arith))) }
+
+returns-2 : tie.Need-returns-2
+returns-2 c =
+    let r = c .before .before in
+    let f = short-answer (S r) (length (L r)) (k r) (n r) (p r) (course r) (omega (arith, c .if1 .taken, on-sheet r 0 (omega arith) .samePoints)) in
+    (sym f, sym (refused-list (S r) (L r) Shelf f))
+
+lay-axes-requires : tie.Need-lay-axes-requires
+lay-axes-requires c κs = let e = c .before in (on-sheet (e .before .before), e .if1 .left)
+
+same-length : tie.Need-same-length
+same-length c = search needs
+
+returns-3 : tie.Need-returns-3
+returns-3 c =
+    let a = c .before in let e = a .before .before in let r = e .before .before in
+    let q = on-sheet r 0 (omega arith) .samePoints in
+    let f = done-answer (S r) (length (L r)) (k r) (n r) (p r) (course r) (omega (arith, e .if1 .left)) in
+    (sym f, a .lay-axes .ensures ∙ ap (λ (m : ℕ). allBends (S r) ++ drop (3 * m) (L r)) q ∙ sym (done-list (S r) (L r) f))
+
+pub lay-out-spec : {M : Type 1} → statement M
+lay-out-spec =
+    tie.close
+    (tie.spec read-requires enum-known-reading enum-told refusal-of-requires returns mul-if1 returns-2 lay-axes-requires same-length returns-3)

@@ -1,0 +1,76 @@
+-- `layout::row::inner_at` meets its contract: the legs and value steps are those of the course, round its end where the course is closed.
+use mathlib.Core.Path.{_≡_, sym, ap, _∙_}
+use Prim.Native.Nat.{ℕ, _<_}
+use native.Mathlib.Omega.{arith}
+use borrow.Author.Needs.{needs}
+use lib.IntN.{pos, natAbs, _-ℤ_}
+use Rattle.sheet.specs.Fields.{leg, waypoint}
+use Rattle.spline.specs.Spline.{Course, next, prev, stepAfter, stepBefore, innerRow}
+use Rattle.layout.specs.Course.{course}
+use Rattle.layout.specs.Inside.{told}
+use Rattle.layout.proofs.Given.{same-legs, few-legs}
+use Rattle.layout.proofs.Made.{passed}
+use Rattle.layout.proofs.Rows.{shared-legs, inner-row}
+use Rattle.layout.proofs.row.inner_at.Statement.{statement}
+use Rattle.layout.proofs.row.inner_at.Tie as tie
+
+module _ (s : tie.Start) where
+  abbrev c : Course
+  c = course (s .args .s .now) (s .args .axis)
+
+  abbrev i : ℕ
+  i = s .args .i
+
+  fits : i < s .args .n
+  fits = let o = s .pre .0 in omega (arith, shared-legs o i (s .pre .1) .1, same-legs o, few-legs o)
+
+-- the waypoint before is the course's
+p-is : (c : tie.After-before2) → let s = c .before .before in c .before2 .result ≡ prev (course (s .args .s .now) (s .args .axis)) (i s)
+unfolding course
+p-is c = let s = c .before .before in c .before2 .ensures .1 (course (s .args .s .now) (s .args .axis)) (sym (s .pre .0 .samePoints))
+
+q-is : (c : tie.After-after) → let s = c .before .before .before in c .after .result ≡ next (course (s .args .s .now) (s .args .axis)) (i s)
+unfolding course
+q-is c = let s = c .before .before .before in c .after .ensures .1 (course (s .args .s .now) (s .args .axis)) (sym (s .pre .0 .samePoints))
+
+before-requires : tie.Need-before-requires
+before-requires c κs = fits (c .before)
+
+after-requires : tie.Need-after-requires
+after-requires c κs = fits (c .before .before)
+
+step-at-requires : tie.Need-step-at-requires
+step-at-requires c κs = let s = c .before .before .before in (s .pre .0, fits s, c .after .ensures .0)
+
+step-at-requires-2 : tie.Need-step-at-requires-2
+step-at-requires-2 c κs = let s = c .before .before .before .before in (s .pre .0, c .before .before .before2 .ensures .0, fits s)
+
+leg-at-requires : tie.Need-leg-at-requires
+leg-at-requires c κs =
+    let s = c .before .before .before .before .before in let o = s .pre .0 in
+    (o .bounds, rw (p-is (c .before .before .before)) (shared-legs o (i s) (s .pre .1) .0))
+
+leg-at-requires-2 : tie.Need-leg-at-requires-2
+leg-at-requires-2 c κs = let s = c .before .before .before .before .before .before in let o = s .pre .0 in (o .bounds, shared-legs o (i s) (s .pre .1) .1)
+
+inner-requires : tie.Need-inner-requires
+inner-requires c κs = search needs
+
+returns : tie.Need-returns
+unfolding course stepAfter stepBefore
+returns c =
+    let f = c .before .before .before .before .before in let s = f .before .before .before in let o = s .pre .0 in
+    let S = s .args .s .now in let v = waypoint S (s .args .axis) in
+    let l = c .before .before .leg-at in let m = c .before .leg-at2 in let x = c .before .before .before .before .step-at in let y = c .before .before .before .step-at2 in
+    let g = passed (l .ensures .0) (l .ok) ∙ ap (λ (j : ℕ). pos (leg S j)) (p-is (f .before)) in
+    let h = passed (m .ensures .0) (m .ok) in
+    let d = passed (x .ensures .0) (x .ok) ∙ ap (λ (j : ℕ). v j -ℤ v (i s)) (q-is f) in
+    let e = passed (y .ensures .0) (y .ok) ∙ ap (λ (j : ℕ). v (i s) -ℤ v j) (p-is (f .before)) in (
+      c .inner .ensures .0 ∙ (λ j. told (innerRow 2 1 (natAbs (g j)) (natAbs (h j)) (d j) (e j))) ∙ sym (ap told (inner-row o (i s) (s .pre .1))),
+      c .inner .ensures .1,
+    )
+
+pub inner-at-spec : {M : Type 1} → statement M
+inner-at-spec =
+    tie.close
+    (tie.spec before-requires after-requires step-at-requires step-at-requires-2 leg-at-requires leg-at-requires-2 inner-requires returns)

@@ -1,0 +1,65 @@
+-- What the functions inside laying out say of each other. No promise of `lay_out` rests on these words.
+use mathlib.Core.Path.{_≡_}
+use mathlib.Core.List.{List}
+use Prim.Native.Nat.{ℕ, _+_, _≤_, _<_}
+use lib.IntN.{ℤ, pos, natAbs}
+use lib.ListN.{replicate}
+use lib.Signed.{_≤ℤ_}
+use Rattle.ends.specs.declared.EndKind.{EndKind}
+use Rattle.ends.specs.declared.EndKind.the-variants.{Free, Held, Closed}
+use Rattle.sheet.specs.Fields.{kind, points}
+use Rattle.sheet.specs.Theorems.{Bounds}
+use Rattle.systems.specs.Rows as systems
+use Rattle.systems.specs.Passes.{passes}
+use Rattle.spline.specs.Spline.{rows}
+use Rattle.layout.specs.Course.{course}
+use Rattle.layout.specs.declared.row.Row.{Row}
+
+-- the sheet has the bounds of an accepted one, its kind is k and its N is n; and the axis is one of three
+pub record OnSheet (s : List ℕ) (k : EndKind) (n axis : ℕ) : Type 0 where
+  pub bounds : Bounds s
+  pub sameKind : k ≡ kind s
+  pub samePoints : n ≡ points s
+  pub axisFits : axis < 3
+
+-- how many waypoints at each end have no row: 01, "Free: .. the ends have no row"
+abbrev pub skipped : EndKind → ℕ
+skipped Free = 1
+skipped Held = 0
+skipped Closed = 0
+
+-- of n waypoints, i has a row
+abbrev pub HasRow : EndKind → ℕ → ℕ → Type 0
+HasRow k n i = (skipped k ≤ i) × (i + skipped k < n)
+
+-- 01: "Inner waypoint, or any waypoint of a closed course"
+abbrev pub Inner : EndKind → ℕ → ℕ → Type 0
+Inner Free n i = (1 ≤ i) × (i + 1 < n)
+Inner Held n i = (1 ≤ i) × (i + 1 < n)
+Inner Closed n i = i < n
+
+-- the code's row of a row that is present
+abbrev pub told : systems.Row → Row
+told r = record { before = pos (r .before); middle = pos (r .middle); after = pos (r .after); right = r .right }
+
+-- a leg: 1 to 256
+pub record Leg (h : ℤ) : Type 0 where
+  pub some : pos 1 ≤ℤ h
+  pub few : natAbs h ≤ 256
+
+-- how large a row's numbers are: 256 × 256 × 256, four times that, and 256 × 2,000,000 twice
+pub record Sized (r : Row) : Type 0 where
+  pub some : pos 1 ≤ℤ r .middle
+  pub before : natAbs (r .before) ≤ 16_777_216
+  pub middle : natAbs (r .middle) ≤ 67_108_864
+  pub after : natAbs (r .after) ≤ 16_777_216
+  pub right : natAbs (r .right) ≤ 1_024_000_000
+
+-- DESIGN 3.3's bound on every bend number in every pass
+abbrev pub Small : ℤ → Type 0
+Small z = natAbs z ≤ 131_399_680_001
+
+-- the numbers of some count of passes from zeros
+pub record Reached (s : List ℕ) (axis : ℕ) (z : List ℤ) : Type 0 where
+  pub count : ℕ
+  pub numbers : z ≡ passes (rows (course s axis)) 65536 count (replicate (points s) (pos 0))

@@ -1,0 +1,18 @@
+-- What is proved of laying out, beside the promise of `lay_out`.
+use mathlib.Core.List.{List}
+use Prim.Native.Nat.{ℕ, _<_}
+use Rattle.sheet.specs.Fields.{points}
+use Rattle.sheet.specs.Theorems.{Accepted}
+use Rattle.spline.specs.Spline.{InBounds, Curve, Exact}
+use Rattle.spline.specs.Theorems.{bends, Eighths}
+use Rattle.systems.specs.Passes.{at}
+use Rattle.layout.specs.Course.{course}
+
+-- an accepted sheet's course is within the bounds that the spline's theorems ask for, on every axis
+abbrev pub CourseInBounds : Type 0
+CourseInBounds = (s : List ℕ) → Accepted s → (axis : ℕ) → axis < 3 → InBounds (course s axis)
+
+-- 01: "It follows, and is wanted, that each Z is within 9/8 of 65,536 times the exact bend."
+abbrev pub LaidOutNear : Type 0
+LaidOutNear = (s : List ℕ) → Accepted s → (axis : ℕ) → axis < 3 → (e : Curve) → Exact (course s axis) e
+    → (i : ℕ) → i < points s → Eighths 9 (course s axis) e i (at (bends (course s axis)) i)

@@ -1,0 +1,49 @@
+// Laying out the bend numbers of a sheet (01, Laying out bend numbers): 40 passes in place on each axis, into a lent list.
+mod pass;
+mod row;
+
+use answers::Outcome;
+use ends::EndKind;
+use sheet::Reading;
+use sheet::Refusal;
+ghost use mathlib.Core.Path.{_≡_};
+ghost use mathlib.Core.List.{_++_};
+ghost use Prim.Native.Nat.{ℕ, _*_, _≤_, _<_};
+ghost use lib.ListN.{length, drop};
+ghost use Rattle.answers.specs.Answers.{toldOutcome};
+ghost use Rattle.layout.specs.Inside.{OnSheet};
+ghost use Rattle.layout.specs.Layout.{allBends, layOut, laidOut};
+
+// 01: "North fills the first N places of the lent list, east the next N, up the N after those; places beyond 3N keep what they held."
+fn lay_axes(s: &[u8], kind: EndKind, n: usize, list: &mut [i64])
+    requires { ⌜ ((axis : ℕ) → axis < 3 → OnSheet (now s) kind n axis) × (3 * n ≤ length (now list)) ⌝ }
+    ensures { λ _. ⌜ now (list .exit) ≡ allBends (now (s .entry)) ++ drop (3 * n) (now (list .entry)) ⌝ }
+{
+    let east = n;
+    let up = 2 * n;
+    let end = 3 * n;
+    pass::lay_axis(s, kind, n, 0, &mut list[0..east]);
+    pass::lay_axis(s, kind, n, 1, &mut list[east..up]);
+    pass::lay_axis(s, kind, n, 2, &mut list[up..end]);
+}
+
+// Lays the sheet's bend numbers out in the lent list. Tests 1 to 9; a refused call leaves the list as it is.
+pub fn lay_out(s: &[u8], list: &mut [i64]) -> Outcome
+    ensures answer { λ r. ⌜ toldOutcome r ≡ layOut (now (s .entry)) (length (now (list .entry))) ⌝ }
+    ensures list { λ r. ⌜ now (list .exit) ≡ laidOut (now (s .entry)) (now (list .entry)) ⌝ }
+{
+    let reading = sheet::read(s);
+    let Reading::Course {
+        kind,
+        points,
+        ticks: _,
+    } = reading
+    else {
+        return Outcome::Refused(answers::refusal_of(reading));
+    };
+    if list.len() < 3 * points {
+        return Outcome::Refused(Refusal::Shelf);
+    }
+    lay_axes(s, kind, points, list);
+    Outcome::Done
+}

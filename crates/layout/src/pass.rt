@@ -1,0 +1,82 @@
+// Passes over one axis (01, Laying out bend numbers).
+use crate::row;
+use crate::row::Row;
+use ends::EndKind;
+ghost use mathlib.Core.Path.{_≡_};
+ghost use mathlib.Core.Bool.{false};
+ghost use lib.IntN.{pos, natAbs, _-ℤ_, _*ℤ_};
+ghost use lib.ListN.{length, replicate};
+ghost use Rattle.rounding.specs.Rounded.{rounded};
+ghost use Rattle.systems.specs.Passes as systems;
+ghost use Rattle.spline.specs.Spline.{rows};
+ghost use Rattle.spline.specs.Theorems.{bends};
+ghost use Rattle.layout.specs.Course.{course};
+ghost use Rattle.layout.specs.Inside.{OnSheet, Sized, Small, Reached, skipped};
+
+// 01: "(65,536 × right side - the outer products, with the Z as they are now) / the middle factor", rounded
+fn renewed(row: Row, left: i64, next: i64) -> i64
+    requires { ⌜ Sized row × Small left × Small next ⌝ }
+    ensures { λ r. ⌜ r ≡ rounded (pos 65536 *ℤ row .right -ℤ row .before *ℤ left -ℤ row .after *ℤ next) (natAbs (row .middle)) ⌝ }
+{
+    rounding::rounded(
+        65536 * row.right - row.before * left - row.after * next,
+        row.middle,
+    )
+}
+
+// How many waypoints at each end have no row: 01, "Free: .. the ends have no row".
+fn skipped(kind: EndKind) -> usize
+    ensures { λ r. ⌜ r ≡ skipped kind ⌝ }
+{
+    match kind {
+        EndKind::Free => 1,
+        EndKind::Held => 0,
+        EndKind::Closed => 0,
+    }
+}
+
+// 01: "A pass goes from the first waypoint to the last, in place". The number just set is the next row's left neighbour. Answers whether a number changed.
+fn pass(s: &[u8], kind: EndKind, n: usize, axis: usize, z: &mut [i64]) -> bool
+    requires { ⌜ OnSheet (now s) kind n axis × Reached (now s) axis (now z) ⌝ }
+    ensures numbers { λ r. ⌜ now (z .exit) ≡ systems.pass (rows (course (now (s .entry)) axis)) 65536 (now (z .entry)) ⌝ }
+    ensures settled { λ r. ⌜ (r ≡ false → now (z .exit) ≡ now (z .entry)) ⌝ }
+{
+    let mut changed = false;
+    let mut i = skipped(kind);
+    let end = n - i;
+    let mut left = z[row::before(i, n)];
+    while i < end {
+        let x = renewed(row::row_at(s, kind, n, axis, i), left, z[row::after(i, n)]);
+        changed = changed | (x != z[i]);
+        z[i] = x;
+        left = x;
+        i = i + 1;
+    }
+    changed
+}
+
+// 01: "All Z start at 0."
+fn clear(z: &mut [i64])
+    ensures { λ _. ⌜ now (z .exit) ≡ replicate (length (now (z .entry))) (pos 0) ⌝ }
+{
+    let mut i = 0;
+    while i < z.len() {
+        z[i] = 0;
+        i = i + 1;
+    }
+}
+
+// 01: "There are 40 passes." After a pass that changed nothing the others would change nothing either.
+pub fn lay_axis(s: &[u8], kind: EndKind, n: usize, axis: usize, z: &mut [i64])
+    requires { ⌜ OnSheet (now s) kind n axis × (length (now z) ≡ n) ⌝ }
+    ensures { λ _. ⌜ now (z .exit) ≡ bends (course (now (s .entry)) axis) ⌝ }
+{
+    clear(z);
+    let mut done: usize = 0;
+    while done < 40 {
+        if !pass(s, kind, n, axis, z) {
+            return;
+        }
+        done = done + 1;
+    }
+}
