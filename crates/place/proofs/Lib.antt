@@ -1,0 +1,6 @@
+pub mod Sizes
+pub mod Fitting
+pub mod Answer
+pub mod Entry
+pub mod Ends
+pub mod Waypoints

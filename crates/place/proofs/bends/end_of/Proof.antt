@@ -1,0 +1,24 @@
+-- `place::bends::end_of` meets its contract: the code's test is the definition's.
+use Prim.Native.Nat.{suc}
+use native.Mathlib.Omega.{arith}
+use borrow.Author.Needs.{needs}
+use borrow.Author.Tests.{eq-eqb, ne-eqb}
+use Rattle.place.proofs.bends.end_of.Statement.{statement}
+use Rattle.place.proofs.bends.end_of.Tie as tie
+
+add-if1 : tie.Need-add-if1
+add-if1 c = search needs
+
+add-result : tie.Need-add-result
+add-result c = search needs
+
+returns : tie.Need-returns
+returns c = (simp (eq-eqb (suc (c .before .args .i)) (c .before .args .points) (omega arith)), omega arith)
+
+returns-2 : tie.Need-returns-2
+returns-2 c =
+    let other = c .if1 .left in
+    (simp (ne-eqb (suc (c .before .args .i)) (c .before .args .points) (λ e. other (omega arith))) (omega arith), omega arith)
+
+pub end-of-spec : {M : Type 1} → statement M
+end-of-spec = tie.close (tie.spec add-if1 add-result returns returns-2)

@@ -1,0 +1,87 @@
+-- `place::place_at` meets its contract: the six numbers asked are the definition's, and each axis gets its number.
+use mathlib.Core.Path.{_≡_, refl, sym, _∙_}
+use mathlib.Core.Bool.{false, _||_}
+use mathlib.Core.List.{List, [], _∷_}
+use Prim.Native.Nat.{ℕ, _+_, _*_}
+use native.Mathlib.Omega.{arith}
+use borrow.Author.Needs.{needs}
+use lib.IntN.{ℤ}
+use Rattle.integers.proofs.Machine.{back}
+use Rattle.sheet.specs.Bytes.{anyBelow}
+use Rattle.systems.specs.Passes.{at}
+use Rattle.runner.specs.declared.Runner.{Runner}
+use Rattle.place.specs.Places.{beyond, bendOutside}
+use Rattle.place.specs.Asked.{Fitting}
+use Rattle.place.proofs.Answer.{answers-with}
+use Rattle.place.proofs.Fitting.{start-fits, end-is, list-room}
+use Rattle.place.proofs.place_at.Statement.{statement}
+use Rattle.place.proofs.place_at.Tie as tie
+
+module _ (s : tie.Start) where
+  abbrev sheet : List ℕ
+  sheet = s .args .s .now
+
+  abbrev list : List ℤ
+  list = s .args .list .now
+
+  abbrev runner : Runner
+  runner = s .args .at
+
+  fitting : Fitting sheet list (s .args .points) (s .args .legs) runner
+  fitting = s .pre
+
+-- the test of 12 is the paper's
+bend-said : (c : tie.After-bend-outside) → let s = c .before .before .before in c .bend-outside .result ≡ bendOutside (sheet s) (list s) (runner s .leg)
+unfolding bendOutside
+bend-said c =
+    let e = c .before in let s = e .before .before in let f = fitting s in
+    let end = e .end-of .ensures .0 ∙ end-is f in
+    c .bend-outside .ensures
+    ∙ (λ i. anyBelow (λ axis. beyond (at (list s) (axis * f .is-points i + runner s .leg)) || beyond (at (list s) (axis * f .is-points i + end i))) 3)
+
+end-of-requires : tie.Need-end-of-requires
+end-of-requires c κs = omega (arith, start-fits (fitting (c .before)))
+
+bend-outside-requires : tie.Need-bend-outside-requires
+bend-outside-requires c κs = let f = fitting (c .before .before) in (list-room f, omega (arith, start-fits f), c .end-of .ensures .1)
+
+refused-requires : tie.Need-refused-requires
+refused-requires c κs = search needs
+
+returns : tie.Need-returns
+returns c =
+    answers-with (c .refused .result) (c .refused .ensures) (simp (sym (bend-said (c .before .before)) ∙ c .before .if1 .taken))
+
+within : (c : tie.Else1) → let s = c .before .before .before .before in bendOutside (sheet s) (list s) (runner s .leg) ≡ false
+within c = sym (bend-said (c .before)) ∙ c .if1 .left
+
+place-on-requires : tie.Need-place-on-requires
+place-on-requires c κs = (fitting (c .before .before .before .before), (within c, omega arith))
+
+place-on-requires-2 : tie.Need-place-on-requires-2
+place-on-requires-2 c κs = let e = c .before in (fitting (e .before .before .before .before), (within e, omega arith))
+
+place-on-requires-3 : tie.Need-place-on-requires-3
+place-on-requires-3 c κs = let e = c .before .before in (fitting (e .before .before .before .before), (within e, omega arith))
+
+returns-2 : tie.Need-returns-2
+returns-2 c =
+    let b = c .before in let a = b .before in let e = a .before in
+    let north = back refl (record { sfits = a .place-on .ok }) ∙ a .place-on .ensures in
+    let east = back refl (record { sfits = b .place-on2 .ok }) ∙ b .place-on2 .ensures in
+    let up = back refl (record { sfits = c .place-on3 .ok }) ∙ c .place-on3 .ensures in
+    let free = within e in
+    ((λ i. record { number = 0; values = north i ∷ east i ∷ up i ∷ [] }) ∙ simp free, (λ i. north i ∷ east i ∷ up i ∷ []) ∙ simp free)
+
+pub place-at-spec : {M : Type 1} → statement M
+place-at-spec =
+    tie.close
+    (tie.spec
+    end-of-requires
+    bend-outside-requires
+    refused-requires
+    returns
+    place-on-requires
+    place-on-requires-2
+    place-on-requires-3
+    returns-2)

@@ -1,0 +1,44 @@
+-- What is proved of places beside the promises of the entry points (demand 2: "every waypoint is met exactly"; place by tick is the place by the tick's runner).
+use mathlib.Core.Path.{_≡_}
+use mathlib.Core.Bool.{true, false}
+use mathlib.Core.List.{List, [], _∷_}
+use Prim.Native.Nat.{ℕ, _-_, _<_}
+use lib.IntN.{ℤ}
+use lib.ListN.{length}
+use Rattle.sheet.specs.Answers.{Told}
+use Rattle.sheet.specs.Bytes.{sumBelow}
+use Rattle.sheet.specs.Fields.{kind, points, legs, leg, ticks, waypoint}
+use Rattle.sheet.specs.Theorems.{Accepted}
+use Rattle.layout.specs.Layout.{short}
+use Rattle.runner.specs.Ticks.{runner, isOpen, reduced, past, spotAt}
+use Rattle.place.specs.Places.{endOf, bendOutside, placeOn, placeAtTick, placeOfRunner}
+
+-- at a leg's offset 0 the place is the waypoint at its start, at full offset the waypoint at its end: on every axis, whatever the bend numbers
+abbrev pub LegEndsMet : Type 0
+LegEndsMet = (s : List ℕ) → Accepted s → (list : List ℤ) (i : ℕ) → i < legs s → (axis : ℕ)
+    → (placeOn s list (runner i 0) axis ≡ waypoint s axis i) × (placeOn s list (runner i (leg s i)) axis ≡ waypoint s axis (endOf s i))
+
+-- the waypoint i is met: no number, and exactly its north, east and up
+abbrev pub met : List ℕ → ℕ → Told
+met s i = record { number = 0; values = waypoint s 0 i ∷ waypoint s 1 i ∷ waypoint s 2 i ∷ [] }
+
+-- the tick of the waypoint i: the sum of the legs before it; P for an open course's last
+abbrev pub tickOfWaypoint : List ℕ → ℕ → ℕ
+tickOfWaypoint s i = sumBelow (leg s) i
+
+-- 01: "every waypoint is met exactly", by tick (closed: modulo P), for any bend numbers that are within 12's limits at the tick's leg
+abbrev pub WaypointMetAtTick : Type 0
+WaypointMetAtTick = (s : List ℕ) → Accepted s → (list : List ℤ) → short s (length list) ≡ false
+    → (i : ℕ) → i < points s → (t : ℕ) → reduced (kind s) (ticks s) t ≡ tickOfWaypoint s i
+    → bendOutside s list (spotAt s t .leg) ≡ false → placeAtTick s list t ≡ met s i
+
+-- and by runner: at a leg's start, and at the end of an open course
+abbrev pub WaypointMetByRunner : Type 0
+WaypointMetByRunner = (s : List ℕ) → Accepted s → (list : List ℤ) → short s (length list) ≡ false
+    → ((i : ℕ) → i < legs s → bendOutside s list i ≡ false → placeOfRunner s list (runner i 0) ≡ met s i)
+    × (isOpen (kind s) ≡ true → bendOutside s list (legs s - 1) ≡ false
+    → placeOfRunner s list (runner (legs s - 1) (leg s (legs s - 1))) ≡ met s (points s - 1))
+
+-- the place by tick is the place by the tick's runner, refusals too, for every tick that is not past
+abbrev pub TickIsRunner : Type 0
+TickIsRunner = (s : List ℕ) (list : List ℤ) (t : ℕ) → past s t ≡ false → placeAtTick s list t ≡ placeOfRunner s list (spotAt s t)

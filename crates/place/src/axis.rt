@@ -1,0 +1,37 @@
+// The place's number on one axis (01, Places), straight from the sheet's bytes and the lent list. The axis is a parameter: 0 is north, 1 east, 2 up.
+ghost use mathlib.Core.Path.{_≡_};
+ghost use mathlib.Core.Bool.{false};
+ghost use Prim.Native.Nat.{_+_, _*_, _≤_, _<_};
+ghost use lib.ListN.{length};
+ghost use Rattle.sheet.specs.Fields.{legs as legsOf, waypoint};
+ghost use Rattle.place.specs.Asked.{Fitting};
+ghost use Rattle.place.specs.Places.{bendOutside, placeOn};
+use crate::bends::bend_of;
+use crate::bends::end_of;
+use crate::position::position;
+use runner::Runner;
+
+// The number of waypoint i on an axis. 01: "Then N waypoints of 12 bytes: north, east, up, each signed, 32 bits".
+fn waypoint_on(s: &[u8], legs: usize, axis: usize, i: usize) -> i64
+    requires { ⌜ (legs ≡ legsOf (now s)) × (axis < 3) × (8 + 2 * legs + 12 * i + 12 ≤ length (now s)) ⌝ }
+    ensures { λ r. ⌜ r ≡ waypoint (now (s .entry)) axis i ⌝ }
+{
+    sheet::read_signed(s, 8 + 2 * legs + 12 * i + 4 * axis)
+}
+
+// The place's number on an axis, for a runner to which neither 11 nor 12 applies.
+pub fn place_on(s: &[u8], list: &[i64], points: usize, legs: usize, at: Runner, axis: usize) -> i64
+    requires { ⌜ Fitting (now s) (now list) points legs at ⌝ }
+    requires { ⌜ bendOutside (now s) (now list) (at .leg) ≡ false ⌝ }
+    requires { ⌜ axis < 3 ⌝ }
+    ensures { λ r. ⌜ r ≡ placeOn (now (s .entry)) (now (list .entry)) at axis ⌝ }
+{
+    let start = at.leg as usize;
+    let end = end_of(points, start);
+    let h = runner::leg_length(s, start);
+    let v = waypoint_on(s, legs, axis, start);
+    let w = waypoint_on(s, legs, axis, end);
+    let z = bend_of(list, points, axis, start);
+    let y = bend_of(list, points, axis, end);
+    position(h, at.offset, v, w, z, y)
+}

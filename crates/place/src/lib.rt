@@ -1,0 +1,110 @@
+// Places (01, Places): the place by tick and the place by runner.
+mod axis;
+mod bends;
+mod position;
+
+ghost use mathlib.Core.Path.{_≡_};
+ghost use Rattle.sheet.specs.Answers.{refused};
+ghost use Rattle.place.specs.Asked.{Fitting, bendOrPlace};
+ghost use Rattle.place.specs.Places.{toldPlaced, placeHeld, placeAtTick, placeOfRunner};
+use answers::Outcome;
+use axis::place_on;
+use bends::bend_outside;
+use bends::end_of;
+use bends::is_short;
+use runner::Runner;
+use sheet::Reading;
+use sheet::Refusal;
+
+// 01: "A place is three whole numbers, north, east and up".
+pub struct Place {
+    pub at: [i64; 3],
+}
+
+// The answer beside the place, since an enum cannot hold the array. A refusal leaves zeros in the place.
+pub struct Placed {
+    pub outcome: Outcome,
+    pub place: Place,
+}
+
+fn refused(refusal: Refusal) -> Placed
+    ensures told { λ r. ⌜ toldPlaced r ≡ refused refusal ⌝ }
+    ensures place { λ r. ⌜ r .place .at ≡ placeHeld (refused refusal) ⌝ }
+{
+    let nowhere = Place { at: [0, 0, 0] };
+    Placed {
+        outcome: Outcome::Refused(refusal),
+        place: nowhere,
+    }
+}
+
+// The place of a runner to which 11 does not apply; 12 is left to test.
+fn place_at(s: &[u8], list: &[i64], points: usize, legs: usize, at: Runner) -> Placed
+    requires { ⌜ Fitting (now s) (now list) points legs at ⌝ }
+    ensures told { λ r. ⌜ toldPlaced r ≡ bendOrPlace (now (s .entry)) (now (list .entry)) at ⌝ }
+    ensures place { λ r. ⌜ r .place .at ≡ placeHeld (bendOrPlace (now (s .entry)) (now (list .entry)) at) ⌝ }
+{
+    let start = at.leg as usize;
+    if bend_outside(list, points, start, end_of(points, start)) {
+        return refused(Refusal::Bend);
+    }
+    let north = place_on(s, list, points, legs, at, 0);
+    let east = place_on(s, list, points, legs, at, 1);
+    let up = place_on(s, list, points, legs, at, 2);
+    let place = Place {
+        at: [north, east, up],
+    };
+    Placed {
+        outcome: Outcome::Done,
+        place,
+    }
+}
+
+// 01: "A place by tick tests 1 to 10 and 12."
+pub fn place_at_tick(s: &[u8], list: &[i64], tick: u64) -> Placed
+    ensures told { λ r. ⌜ toldPlaced r ≡ placeAtTick (now (s .entry)) (now (list .entry)) tick ⌝ }
+    ensures place { λ r. ⌜ r .place .at ≡ placeHeld (placeAtTick (now (s .entry)) (now (list .entry)) tick) ⌝ }
+{
+    let reading = sheet::read(s);
+    let Reading::Course {
+        kind,
+        points,
+        ticks,
+    } = reading
+    else {
+        return refused(answers::refusal_of(reading));
+    };
+    if is_short(list, points) {
+        return refused(Refusal::Shelf);
+    }
+    if runner::is_past(kind, ticks, tick) {
+        return refused(Refusal::Past);
+    }
+    let legs = ends::leg_count(kind, points);
+    let at = runner::spot_at(s, kind, legs, ticks, tick);
+    place_at(s, list, points, legs, at)
+}
+
+// 01: "A place by runner tests 1 to 9, 11 and 12."
+pub fn place_of_runner(s: &[u8], list: &[i64], at: Runner) -> Placed
+    ensures told { λ r. ⌜ toldPlaced r ≡ placeOfRunner (now (s .entry)) (now (list .entry)) at ⌝ }
+    ensures place { λ r. ⌜ r .place .at ≡ placeHeld (placeOfRunner (now (s .entry)) (now (list .entry)) at) ⌝ }
+{
+    let reading = sheet::read(s);
+    let Reading::Course {
+        kind,
+        points,
+        ticks: _,
+    } = reading
+    else {
+        return refused(answers::refusal_of(reading));
+    };
+    if is_short(list, points) {
+        return refused(Refusal::Shelf);
+    }
+    let legs = ends::leg_count(kind, points);
+    if runner::is_adrift(s, kind, legs, at.leg, at.offset) {
+        return refused(Refusal::Adrift);
+    }
+    place_at(s, list, points, legs, at)
+}

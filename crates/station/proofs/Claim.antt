@@ -1,0 +1,137 @@
+-- Demand 3, proved. One axis is the spline crate's; here it meets the sheet, the list and the tests.
+use mathlib.Core.Path.{_≡_, refl, _∙_, ap, subst⁻¹}
+use mathlib.Core.Bool.{Bool, true, false, _&&_}
+use mathlib.Core.List.{List}
+use Prim.Native.Nat.{ℕ, zero, suc, _*_, _^_, _≤_, _<_}
+use native.Mathlib.Omega.{arith}
+use lib.Dec.{ltb}
+use lib.IntN.{ℤ, pos, negsuc, natAbs}
+use lib.ListN.{length}
+use borrow.Author.Tests.{le-ltb}
+use Rattle.ends.specs.declared.EndKind.{EndKind}
+use Rattle.ends.specs.declared.EndKind.the-variants.{Free, Held, Closed}
+use Rattle.sheet.specs.Answers.{Told}
+use Rattle.sheet.specs.Bytes.{anyBelow}
+use Rattle.sheet.specs.Fields.{kind, points, legs, leg, ticks, waypoint}
+use Rattle.sheet.specs.Reading.{outside, readSheet}
+use Rattle.sheet.specs.Theorems.{Accepted}
+use Rattle.sheet.specs.declared.Refusal.the-variants.{Shelf, Past, Adrift, Bend}
+use Rattle.sheet.proofs.ByKind.{legs-at-most}
+use Rattle.sheet.proofs.Laws.{accepted-read, accepted-bounds}
+use Rattle.answers.specs.Answers.{done, passOn, guard}
+use Rattle.systems.specs.Passes.{at, sweep}
+use Rattle.spline.specs.Spline as spline
+use Rattle.spline.specs.Spline.{Curve, Exact, next, valueAt}
+use Rattle.spline.specs.Position.{position, Near}
+use Rattle.spline.specs.Theorems.{bends}
+use Rattle.spline.proofs.Existence.{spline-exists}
+use Rattle.spline.proofs.OneCurve.{one-curve}
+use Rattle.spline.proofs.Bends.{bends-bounded, position-near}
+use Rattle.spline.proofs.Waypoints.{next-lt}
+use Rattle.layout.specs.Course.{course}
+use Rattle.layout.specs.Layout.{short, layOut, laidOut}
+use Rattle.layout.proofs.Near.{course-in-bounds}
+use Rattle.runner.specs.Ticks.{runner, isOpen, past, spotAt}
+use Rattle.runner.specs.Steps.{adrift}
+use Rattle.runner.proofs.Standing.{Standing, on-leg, at-end, standing, tick-stands}
+use Rattle.runner.specs.declared.Runner.{Runner}
+use Rattle.place.specs.Places.{bendOf, bendOutside, endOf, placed, placeOn, placeAtTick, placeOfRunner}
+use Rattle.station.specs.Claim.{Own, Answers, Answered, Demand3, Claim}
+use Rattle.station.proofs.Own.{each-axis, laid-when-done, own-long, own-bend}
+
+-- a number of at most a in size is not outside -a to a
+within-limits : (a : ℕ) (z : ℤ) → natAbs z ≤ suc a → outside (suc a) (suc a) z ≡ false
+within-limits a (pos n) h = le-ltb (suc a) n h
+within-limits a (negsuc n) h = rw (le-ltb a n (omega arith))
+
+-- a runner that is not adrift stands on a leg, at an offset up to its length
+fits-leg : (s : List ℕ) (r : Runner) → adrift s r ≡ false → (r .leg < legs s) × (r .offset ≤ leg s (r .leg))
+fits-leg s r fits = go (standing s r fits)
+  where
+    go : Standing s r → (r .leg < legs s) × (r .offset ≤ leg s (r .leg))
+    go (on-leg l u) = (l, omega arith)
+    go (at-end o l u) = (omega arith, omega arith)
+
+module _ (s : List ℕ) (accepted : Accepted s) where
+  -- past the reader's tests and number 9
+  past-shelf : (list : List ℤ) → 3 * points s ≤ length list → (rest : Told) → passOn (readSheet s) (guard (short s (length list)) Shelf rest) ≡ rest
+  past-shelf list long rest = rw (accepted-read s accepted, le-ltb (length list) (3 * points s) long)
+
+  laying : (list : List ℤ) → 3 * points s ≤ length list → layOut s (length list) ≡ done
+  unfolding layOut
+  laying list long = past-shelf list long done
+
+  -- ---- with the station's own bend numbers, at a leg i of the course
+  module _ (list : List ℤ) (own : Own s list) where
+    -- number 12 applies to none of them
+    bend-small : (i : ℕ) → i < points s → (axis : ℕ) → axis < 3 → outside (2 ^ 37) (2 ^ 37) (bendOf s list axis i) ≡ false
+    unfolding sweep course
+    bend-small i h axis k = within-limits 137_438_953_471 (bendOf s list axis i)
+        (rw (own-bend s list own i h axis k) (omega (arith, bends-bounded (course s axis) (course-in-bounds s accepted axis k) 40 0 i (omega arith) h)))
+
+    module _ (i : ℕ) (l : i < legs s) where
+      starts : i < points s
+      starts = omega (arith, legs-at-most (kind s) (points s))
+
+      ends : endOf s i < points s
+      unfolding course
+      ends = next-lt (course s 0) i starts
+
+      bends-inside : bendOutside s list i ≡ false
+      unfolding bendOutside anyBelow
+      bends-inside = rw (
+        bend-small i starts 0 (omega arith),
+        bend-small i starts 1 (omega arith),
+        bend-small i starts 2 (omega arith),
+        bend-small (endOf s i) ends 0 (omega arith),
+        bend-small (endOf s i) ends 1 (omega arith),
+        bend-small (endOf s i) ends 2 (omega arith),
+      )
+
+      -- the place on one axis is the position from the course's own bend numbers
+      place-is : (u axis : ℕ) (k : axis < 3) → placeOn s list (runner i u) axis
+          ≡ position (leg s i) u (waypoint s axis i) (waypoint s axis (endOf s i)) (at (bends (course s axis)) i) (at (bends (course s axis)) (endOf s i))
+      unfolding placeOn
+      place-is u axis k = λ j. position (leg s i) u (waypoint s axis i) (waypoint s axis (endOf s i)) (own-bend s list own i starts axis k j) (own-bend s list own (endOf s i) ends axis k j)
+
+      near : (u : ℕ) → u ≤ leg s i → (axis : ℕ) → axis < 3 → (e : Curve) → Exact (course s axis) e → Near (e .denominator) (valueAt (e .cubic i) u) (placeOn s list (runner i u) axis)
+      unfolding course spline.legs next
+      near u h axis k e exact = subst⁻¹ (λ (x : ℤ). Near (e .denominator) (valueAt (e .cubic i) u) x) (place-is u axis k)
+          (position-near (course s axis) (course-in-bounds s accepted axis k) e exact i u l h)
+
+    answered : (r : Runner) → adrift s r ≡ false → (answer : Told) → answer ≡ guard (bendOutside s list (r .leg)) Bend (placed s list r) → Answered s list r answer
+    answered r fits answer e =
+        let (l, u) = fits-leg s r fits in
+        record {
+          place = e ∙ ap (λ (b : Bool). guard b Bend (placed s list r)) (bends-inside (r .leg) l);
+          near = near (r .leg) l (r .offset) u;
+        }
+
+    by-runner : (r : Runner) → adrift s r ≡ false → Answered s list r (placeOfRunner s list r)
+    unfolding placeOfRunner
+    by-runner r fits = answered r fits (placeOfRunner s list r)
+        (past-shelf list (own-long s list own) _ ∙ ap (λ (b : Bool). guard b Adrift (guard (bendOutside s list (r .leg)) Bend (placed s list r))) fits)
+
+    -- a tick that the course answers is not past its end, and stands at a runner that fits
+    by-tick : (t : ℕ) → past s t ≡ false → adrift s (spotAt s t) ≡ false → Answered s list (spotAt s t) (placeAtTick s list t)
+    unfolding placeAtTick
+    by-tick t now fits = answered (spotAt s t) fits (placeAtTick s list t)
+        (past-shelf list (own-long s list own) _ ∙ ap (λ (b : Bool). guard b Past (guard (bendOutside s list (spotAt s t .leg)) Bend (placed s list (spotAt s t)))) now)
+
+  open-tick : isOpen (kind s) ≡ true → (t : ℕ) → t ≤ ticks s → (past s t ≡ false) × (adrift s (spotAt s t) ≡ false)
+  open-tick o t h = (rw (o, le-ltb (ticks s) t h), tick-stands s accepted t .0 o h .fits)
+
+  -- the ticks that 01 names
+  answerable : (k : EndKind) → kind s ≡ k → (t : ℕ) → Answers k (ticks s) t → (past s t ≡ false) × (adrift s (spotAt s t) ≡ false)
+  answerable Free e t h = open-tick (ap isOpen e) t h
+  answerable Held e t h = open-tick (ap isOpen e) t h
+  answerable Closed e t h = (ap (λ (k : EndKind). isOpen k && ltb (ticks s) t) e, tick-stands s accepted t .1 e .fits)
+
+pub claim : Claim
+claim s accepted = record {
+  exists = λ axis h. spline-exists (course s axis) (course-in-bounds s accepted axis h);
+  same = λ axis h. one-curve (course s axis) (course-in-bounds s accepted axis h);
+  laying = λ list long. (laying s accepted list long, laid-when-done s list (laying s accepted list long));
+  by-tick = λ list own t h. let (now, fits) = answerable s accepted (kind s) refl t h in by-tick s accepted list own t now fits;
+  by-runner = by-runner s accepted;
+}

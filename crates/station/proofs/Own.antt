@@ -1,0 +1,89 @@
+-- The station's own bend numbers, read out of a lent list: at axis × N + i stands the number that the passes leave at the waypoint i of that axis.
+use mathlib.Core.Path.{_≡_, refl, sym, _∙_, ap}
+use mathlib.Core.Bool.{cond}
+use mathlib.Core.List.{List, _++_}
+use Prim.Native.Nat.{ℕ, zero, suc, _+_, _*_, _≤_, _<_}
+use native.Mathlib.Omega.{arith}
+use native.Mathlib.Nat.{mul-le-mul-right, le-pred-of-lt}
+use lib.Dec.{eqb}
+use lib.IntN.{ℤ, pos}
+use lib.ListN.{length, take, drop, replicate, length-append, length-take, length-replicate, List·getD-append}
+use lib.Seq.{getD-take, getD-append-add, take-at}
+use Rattle.sheet.specs.Answers.{Told}
+use Rattle.sheet.specs.Fields.{points}
+use Rattle.answers.specs.Answers.{done}
+use Rattle.systems.specs.Passes.{at}
+use Rattle.systems.proofs.Lists.{length-passes}
+use Rattle.spline.specs.Spline.{Course, rows}
+use Rattle.spline.specs.Theorems.{bends}
+use Rattle.layout.specs.Course.{course}
+use Rattle.layout.specs.Layout.{allBends, layOut, laidOut}
+use Rattle.place.specs.Places.{bendOf}
+use Rattle.station.specs.Claim.{Own}
+
+-- what holds of 0, 1 and 2 holds of every axis
+pub each-axis : (P : ℕ → Type 0) → P 0 → P 1 → P 2 → (axis : ℕ) → axis < 3 → P axis
+each-axis P a b c zero h = a
+each-axis P a b c (suc zero) h = b
+each-axis P a b c (suc (suc zero)) h = c
+each-axis P a b c (suc (suc (suc i))) h = absurd (omega arith)
+
+at-first : (xs ys : List ℤ) (j i : ℕ) → j ≡ i → i < length xs → at (xs ++ ys) j ≡ at xs i
+at-first xs ys j i e h = ap (λ (k : ℕ). at (xs ++ ys) k) e ∙ List·getD-append xs ys (pos 0) i h
+
+at-second : (xs ys : List ℤ) (j i : ℕ) → j ≡ length xs + i → at (xs ++ ys) j ≡ at ys i
+at-second xs ys j i e = ap (λ (k : ℕ). at (xs ++ ys) k) e ∙ getD-append-add xs ys i (pos 0)
+
+-- three parts of n numbers each, one after the other
+module _ (n : ℕ) (part : ℕ → List ℤ) (sizes : (axis : ℕ) → axis < 3 → length (part axis) ≡ n) where
+  length-two : length (part 0 ++ part 1) ≡ n + n
+  length-two = omega (arith, length-append (part 0) (part 1), sizes 0 (omega arith), sizes 1 (omega arith))
+
+  length-three : length (part 0 ++ part 1 ++ part 2) ≡ 3 * n
+  length-three = omega (arith, length-append (part 0 ++ part 1) (part 2), length-two, sizes 2 (omega arith))
+
+  at-three : (i : ℕ) → i < n → (axis : ℕ) → axis < 3 → at (part 0 ++ part 1 ++ part 2) (axis * n + i) ≡ at (part axis) i
+  at-three i k =
+      let two = length-two in
+      let one = sizes 0 (omega arith) in
+      let j : i < length (part 0) = omega arith in
+      each-axis (λ axis. at (part 0 ++ part 1 ++ part 2) (axis * n + i) ≡ at (part axis) i)
+      (at-first (part 0 ++ part 1) (part 2) (0 * n + i) i (omega arith) (omega arith) ∙ at-first (part 0) (part 1) i i refl j)
+      (at-first (part 0 ++ part 1) (part 2) (1 * n + i) (n + i) (omega arith) (omega arith) ∙ at-second (part 0) (part 1) (n + i) i (omega arith))
+      (at-second (part 0 ++ part 1) (part 2) (2 * n + i) i (omega arith))
+
+-- ---- a sheet's bend numbers
+length-bends : (c : Course) → length (bends c) ≡ c .points
+length-bends c = length-passes (rows c) 65536 40 (replicate (c .points) (pos 0)) ∙ length-replicate (c .points) (pos 0)
+
+module _ (s : List ℕ) where
+  part-length : (axis : ℕ) → axis < 3 → length (bends (course s axis)) ≡ points s
+  unfolding course
+  part-length axis h = length-bends (course s axis)
+
+  pub length-allBends : length (allBends s) ≡ 3 * points s
+  unfolding allBends
+  length-allBends = length-three (points s) (λ axis. bends (course s axis)) part-length
+
+  -- a laying out that is done leaves the bend numbers, then what the list held
+  pub laid-when-done : (list : List ℤ) → layOut s (length list) ≡ done → laidOut s list ≡ allBends s ++ drop (3 * points s) list
+  unfolding laidOut
+  laid-when-done list e = ap (λ (t : Told). cond (eqb (t .number) 0) (allBends s ++ drop (3 * points s) list) list) e
+
+  own-first : (list : List ℤ) → Own s list → take (3 * points s) list ≡ allBends s
+  own-first list o =
+      o .holds
+      ∙ ap (take (3 * points s)) (laid-when-done (o .lent) (o .not-refused))
+      ∙ take-at (allBends s) (drop (3 * points s) (o .lent)) (3 * points s) length-allBends
+
+  -- so the list is long enough ..
+  pub own-long : (list : List ℤ) → Own s list → 3 * points s ≤ length list
+  own-long list o = omega (arith, ap length (own-first list o), length-allBends, length-take (3 * points s) list)
+
+  -- .. and the number at axis × N + i is the axis' own
+  pub own-bend : (list : List ℤ) → Own s list → (i : ℕ) → i < points s → (axis : ℕ) → axis < 3 → bendOf s list axis i ≡ at (bends (course s axis)) i
+  unfolding allBends
+  own-bend list o i h axis k =
+      sym (getD-take (3 * points s) list (axis * points s + i) (pos 0) (omega (arith, mul-le-mul-right (points s) (le-pred-of-lt k))))
+      ∙ ap (λ (l : List ℤ). at l (axis * points s + i)) (own-first list o)
+      ∙ at-three (points s) (λ axis. bends (course s axis)) part-length i h axis k
