@@ -33,7 +33,8 @@ pub slope-behind : (s : List ℕ) (axis side : ℕ) → waypoint s axis (points 
 slope-behind s axis side = ap (λ (at : ℕ). signed32 (be32 s at)) (omega arith)
 
 -- so every number of an axis is small, those of the waypoints and those of the slopes
-number-small : (s : List ℕ) (axis i : ℕ) (k : EndKind) → k ≡ kind s → axis < 3 → Bounds s → 12 * i + 12 ≤ 12 * points s + slopeBytes k → natAbs (waypoint s axis i) ≤ 1_000_000
+number-small : (s : List ℕ) (axis i : ℕ) (k : EndKind) → k ≡ kind s → axis < 3 → Bounds s → 12 * i + 12 ≤ 12 * points s + slopeBytes k
+    → natAbs (waypoint s axis i) ≤ 1_000_000
 number-small s axis i Free e a b h = b .reach axis i a (omega arith)
 number-small s axis i Held e a b h = le-or-lt (points s) i (natAbs (waypoint s axis i) ≤ 1_000_000)
     (λ l.

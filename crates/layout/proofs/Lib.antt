@@ -4,6 +4,7 @@ pub mod Given
 pub mod Neighbours
 mod RowMade
 mod Rows
+mod Passes
 mod Sweep
 mod Fill
 mod Parts

@@ -9,7 +9,7 @@ use Rattle.integers.proofs.Linear.{lin, _≼_, _⊢_by_, hyp}
 use Rattle.integers.proofs.Order.{nonneg-nat, pos-le, le-pos}
 use Rattle.integers.proofs.Ring.{solve, _≋_, _⊗_, #_}
 use Rattle.systems.specs.Rows as systems
-use Rattle.layout.specs.Inside.{told, Leg, Sized}
+use Rattle.layout.specs.Inside.{codeRow, Leg, Sized}
 use Rattle.layout.specs.declared.row.Row.{Row}
 use Rattle.layout.proofs.Made.{read, Made, read-back, small, given}
 
@@ -40,7 +40,8 @@ module _ (w : systems.Row) {b m a r : ℤ} {B M A R : ℕ}
   abbrev made : Row
   made = record { before = read b; middle = read m; after = read a; right = read r }
 
-  pub row-made : 1 ≤ w .middle → T (leb B 16_777_216) → T (leb M 67_108_864) → T (leb A 16_777_216) → T (leb R 1_024_000_000) → (made ≡ told w) × Sized made
+  pub row-made : 1 ≤ w .middle → T (leb B 16_777_216) → T (leb M 67_108_864) → T (leb A 16_777_216) → T (leb R 1_024_000_000)
+      → (made ≡ codeRow w) × Sized made
   row-made some tb tm ta tr = (
     λ i. record { before = read-back before i; middle = read-back middle i; after = read-back after i; right = read-back right i },
     record {

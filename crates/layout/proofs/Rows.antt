@@ -37,13 +37,17 @@ module _ {s : List ℕ} {k : EndKind} {n axis : ℕ} (o : OnSheet s k n axis) wh
   abbrev c : Course
   c = course s axis
 
-  abbrev row : ℕ → Row
-  row i = rowOf 2 1 k c i
-
   -- the kind that the code was told is the course's
-  told-kind : (i : ℕ) → rowOf 2 1 k c i ≡ rowOf 2 1 (c .ends) c i
+  pub told-kind : (i : ℕ) → rowOf 2 1 k c i ≡ rowOf 2 1 (c .ends) c i
   unfolding course
   told-kind i = ap (λ (e : EndKind). rowOf 2 1 e c i) (o .sameKind)
+
+  ends-are : {e : EndKind} → k ≡ e → c .ends ≡ e
+  unfolding course
+  ends-are q = sym (o .sameKind) ∙ q
+
+  seat-is : {i : ℕ} {r : Row} → Seat 2 1 c i r → rowOf 2 1 k c i ≡ r
+  seat-is {i} t = told-kind i ∙ seat-row 2 1 (in-bounds o) t .1
 
   pub shared-legs : (i : ℕ) → Inner k n i → (prev c i < legs s) × (i < legs s)
   unfolding course
@@ -51,36 +55,32 @@ module _ {s : List ℕ} {k : EndKind} {n axis : ℕ} (o : OnSheet s k n axis) wh
 
   pub inner-row : (i : ℕ) → Inner k n i → rowOf 2 1 k c i ≡ innerAt 2 1 c i
   unfolding course spline.legs
-  inner-row i h = let (f, g) = shared-legs i h in told-kind i ∙ seat-row 2 1 (in-bounds o) (shared i f g) .1
-
-  pub held-start-row : k ≡ Held → rowOf 2 1 k c 0 ≡ heldStartRow 2 1 (c .leg 0) (stepAfter c 0) (c .startSlope)
-  unfolding course
-  held-start-row e = told-kind 0 ∙ seat-row 2 1 (in-bounds o) (heldStart (sym (o .sameKind) ∙ e)) .1
+  inner-row i h = let (f, g) = shared-legs i h in seat-is (shared i f g)
 
   -- an open course's last waypoint
-  last : (e : EndKind) → k ≡ e → legCount e n ≡ n - 1 → (i : ℕ) → i + 1 ≡ n → lastPoint c ≡ i
+  at-last : (e : EndKind) → k ≡ e → legCount e n ≡ n - 1 → (r : ℕ → Row) → rowOf 2 1 k c (lastPoint c) ≡ r (lastPoint c)
+      → (i : ℕ) → i + 1 ≡ n → rowOf 2 1 k c i ≡ r i
   unfolding course spline.legs
-  last e q l i h = omega (arith, ap (λ (j : EndKind). legCount j n) q, same-legs o, two-points o)
+  at-last e q l r x i h =
+      let last : lastPoint c ≡ i = omega (arith, ap (λ (j : EndKind). legCount j n) q, same-legs o, two-points o) in
+      subst (λ (j : ℕ). rowOf 2 1 k c j ≡ r j) last x
+
+  pub held-start-row : k ≡ Held → rowOf 2 1 k c 0 ≡ heldStartRow 2 1 (c .leg 0) (stepAfter c 0) (c .startSlope)
+  held-start-row q = seat-is (heldStart (ends-are q))
 
   pub held-end-row : k ≡ Held → (i : ℕ) → i + 1 ≡ n → rowOf 2 1 k c i ≡ heldEndRow 2 1 (legBefore c i) (stepBefore c i) (c .endSlope)
-  unfolding course
-  held-end-row e i h =
-      told-kind i
-      ∙ subst (λ (j : ℕ). rowOf 2 1 (c .ends) c j ≡ heldEndRow 2 1 (legBefore c j) (stepBefore c j) (c .endSlope)) (last Held e refl i h)
-      (seat-row 2 1 (in-bounds o) (heldEnd (sym (o .sameKind) ∙ e)) .1)
+  held-end-row q = at-last Held q refl (λ j. heldEndRow 2 1 (legBefore c j) (stepBefore c j) (c .endSlope)) (seat-is (heldEnd (ends-are q)))
 
   pub free-start-row : k ≡ Free → rowOf 2 1 k c 0 ≡ freeRow
-  unfolding course
-  free-start-row e = told-kind 0 ∙ seat-row 2 1 (in-bounds o) (freeStart (sym (o .sameKind) ∙ e)) .1
+  free-start-row q = seat-is (freeStart (ends-are q))
 
   pub free-end-row : k ≡ Free → (i : ℕ) → i + 1 ≡ n → rowOf 2 1 k c i ≡ freeRow
-  unfolding course
-  free-end-row e i h =
-      told-kind i
-      ∙ subst (λ (j : ℕ). rowOf 2 1 (c .ends) c j ≡ freeRow) (last Free e refl i h) (seat-row 2 1 (in-bounds o) (freeEnd (sym (o .sameKind) ∙ e)) .1)
+  free-end-row q = at-last Free q refl (λ j. freeRow) (seat-is (freeEnd (ends-are q)))
 
   pub row-present : (i : ℕ) → HasRow k n i → rowOf 2 1 k c i .present ≡ true
   unfolding course
   row-present i h =
+      let b = in-bounds o in
+      let fits : i < points s = omega (arith, o .samePoints, h .1) in
       ap (λ (r : Row). r .present) (told-kind i)
-      ∙ present-at (in-bounds o) (seat 2 1 (in-bounds o) i (omega (arith, o .samePoints, h .1))) (transport (λ j. HasRow (o .sameKind j) (o .samePoints j) i) h)
+      ∙ present-at b (seat 2 1 b i fits) (transport (λ j. HasRow (o .sameKind j) (o .samePoints j) i) h)

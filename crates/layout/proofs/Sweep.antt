@@ -8,7 +8,7 @@ use native.Mathlib.Omega.{arith}
 use borrow.Author.Tests.{eqb-true, not-false}
 use lib.Dec.{eqb}
 use lib.IntN.{ℤ, pos, natAbs, _-ℤ_, _*ℤ_}
-use lib.ListN.{length, set, replicate, length-replicate}
+use lib.ListN.{length, set}
 use lib.Seq.{getD-set-same, set-getD}
 use mir.Syntax.{w64}
 use mir.Val.{toZ, ofZ}
@@ -16,20 +16,20 @@ use Rattle.integers.proofs.Machine.{fits-abs, back}
 use Rattle.ends.specs.declared.EndKind.{EndKind}
 use Rattle.ends.specs.declared.EndKind.the-variants.{Free, Held, Closed}
 use Rattle.rounding.specs.Rounded.{rounded}
-use Rattle.sheet.specs.Fields.{points}
 use Rattle.sheet.proofs.Below.{or-left, or-right}
 use Rattle.systems.specs.Rows.{Row, Rows}
 use Rattle.systems.specs.Passes.{at, target, renewed, sweep, pass}
-use Rattle.systems.proofs.Lists.{step-present, step-absent, sweep-next, length-sweep, length-passes}
+use Rattle.systems.proofs.Lists.{step-present, step-absent, sweep-next, length-sweep}
 use Rattle.spline.specs.Spline.{Course, next, prev, freeRow, rowOf, rowsBy, rows}
 use Rattle.spline.proofs.Bends.{bends-bounded}
 use Rattle.layout.specs.Course.{course}
-use Rattle.layout.specs.Inside.{OnSheet, HasRow, Reached, Small, skipped, told}
+use Rattle.layout.specs.Inside.{OnSheet, HasRow, Reached, Small, skipped, codeRow}
 use Rattle.layout.specs.declared.row.Row as code
 use Rattle.layout.proofs.Made.{read}
 use Rattle.layout.proofs.Given.{two-points, in-bounds}
 use Rattle.layout.proofs.Neighbours.{prev-later}
-use Rattle.layout.proofs.Rows.{row-present, free-start-row, free-end-row}
+use Rattle.layout.proofs.Passes.{passes-length}
+use Rattle.layout.proofs.Rows.{told-kind, row-present, free-start-row, free-end-row}
 
 -- a bend number that is read back
 pub small-kept : (z : ℤ) → Small z → read z ≡ z
@@ -55,17 +55,17 @@ module _ {s : List ℕ} {k : EndKind} {n axis : ℕ} (o : OnSheet s k n axis) wh
   abbrev R : Rows
   R = rows c
 
-  -- the rows' own kind is the one that the code was told
   row-is : (i : ℕ) → R .row i ≡ rowOf 2 1 k c i
-  unfolding rowsBy course
-  row-is i = ap (λ (e : EndKind). rowOf 2 1 e c i) (sym (o .sameKind))
+  unfolding rowsBy
+  row-is i = sym (told-kind o i)
 
   -- what a turn works out is the step's number
-  pub turn-renews : (zs : List ℤ) (i : ℕ) (r : code.Row) (left right : ℤ) → r ≡ told (rowOf 2 1 k c i) → left ≡ at zs (prev c i) → right ≡ at zs (next c i)
+  pub turn-renews : (zs : List ℤ) (i : ℕ) (r : code.Row) (left right : ℤ)
+      → r ≡ codeRow (rowOf 2 1 k c i) → left ≡ at zs (prev c i) → right ≡ at zs (next c i)
       → rounded (pos 65536 *ℤ r .right -ℤ r .before *ℤ left -ℤ r .after *ℤ right) (natAbs (r .middle)) ≡ renewed R 65536 zs i
   unfolding target renewed rowsBy
   turn-renews zs i r left right e l q =
-      let f = e ∙ ap told (sym (row-is i)) in
+      let f = e ∙ ap codeRow (sym (row-is i)) in
       λ j. rounded (pos 65536 *ℤ f j .right -ℤ f j .before *ℤ l j -ℤ f j .after *ℤ q j) (natAbs (f j .middle))
 
   -- one step further, where there is a row and where there is none
@@ -85,13 +85,15 @@ module _ {s : List ℕ} {k : EndKind} {n axis : ℕ} (o : OnSheet s k n axis) wh
   sweep-start Closed q zs = refl
 
   sweep-end : (e : EndKind) → k ≡ e → (zs : List ℤ) → sweep R 65536 n zs ≡ sweep R 65536 (n - skipped e) zs
-  sweep-end Free q zs = let m : n ≡ suc (n - 1) = omega (arith, two-points o) in ap (λ (j : ℕ). sweep R 65536 j zs) m ∙ sweep-past zs (n - 1) (free-end-row o q (n - 1) (omega arith))
+  sweep-end Free q zs =
+      let m : n ≡ suc (n - 1) = omega (arith, two-points o) in
+      ap (λ (j : ℕ). sweep R 65536 j zs) m ∙ sweep-past zs (n - 1) (free-end-row o q (n - 1) (omega arith))
   sweep-end Held q zs = ap (λ (j : ℕ). sweep R 65536 j zs) (omega arith)
   sweep-end Closed q zs = ap (λ (j : ℕ). sweep R 65536 j zs) (omega arith)
 
   module _ (z₀ : List ℤ) (reached : Reached s axis z₀) where
     pub start-length : length z₀ ≡ n
-    start-length = ap length (reached .numbers) ∙ length-passes R 65536 (reached .count) (replicate (points s) (pos 0)) ∙ length-replicate (points s) (pos 0) ∙ sym (o .samePoints)
+    start-length = ap length (reached .numbers) ∙ passes-length s axis (reached .count) ∙ sym (o .samePoints)
 
     pub through-start : (i : ℕ) → i ≡ skipped k → (left : ℤ) → left ≡ at z₀ (prev c i) → Through s k n axis z₀ z₀ false i left
     through-start i e left l = record {
@@ -116,20 +118,26 @@ module _ {s : List ℕ} {k : EndKind} {n axis : ℕ} (o : OnSheet s k n axis) wh
       unfolding pass rowsBy course
       through-end h =
           let e : i ≡ n - skipped k = omega (arith, t .upto) in
-          (t .swept ∙ ap (λ (j : ℕ). sweep R 65536 j z₀) e ∙ sym (sweep-end k refl z₀) ∙ ap (λ (j : ℕ). sweep R 65536 j z₀) (o .samePoints), t .same)
+          let to : ℕ → List ℤ = λ j. sweep R 65536 j z₀ in
+          (t .swept ∙ ap to e ∙ sym (sweep-end k refl z₀) ∙ ap to (o .samePoints), t .same)
 
-      -- a turn sets a number that the machine holds as x
+      -- a turn sets a number that the machine holds as x, and compares it with the one that was there
+      abbrev differs : ℤ → Bool
+      differs x = not (eqb (ofZ w64 x) (ofZ w64 (at z i)))
+
+      found : (x : ℤ) → i < n → differs x ≡ false → read x ≡ at z i
+      found x h e =
+          let equal = not-false (eqb (ofZ w64 x) (ofZ w64 (at z i))) e in
+          ap (toZ w64) (eqb-true (ofZ w64 x) (ofZ w64 (at z i)) equal) ∙ small-kept (at z i) (through-small i h)
+
       pub through-turn : (x : ℤ) → i + skipped k < n → read x ≡ renewed R 65536 z i
-          → Through s k n axis z₀ (set z i (read x)) (changed || not (eqb (ofZ w64 x) (ofZ w64 (at z i)))) (i + 1) (read x)
+          → Through s k n axis z₀ (set z i (read x)) (changed || differs x) (i + 1) (read x)
       through-turn x h e = record {
         from = omega (arith, t .from);
         upto = omega arith;
         swept = ap (set z i) e ∙ ap (λ (l : List ℤ). set l i (renewed R 65536 l i)) (t .swept) ∙ sym (sweep-set z₀ i (t .from, h));
-        leftIs = sym (getD-set-same z i (read x) (pos 0) (omega (arith, through-length))) ∙ ap (at (set z i (read x))) (is-prev);
-        same = λ f.
-            let a = or-left changed (not (eqb (ofZ w64 x) (ofZ w64 (at z i)))) f in
-            let b = not-false (eqb (ofZ w64 x) (ofZ w64 (at z i))) (or-right changed (not (eqb (ofZ w64 x) (ofZ w64 (at z i)))) f) in
-            ap (set z i) (ap (toZ w64) (eqb-true (ofZ w64 x) (ofZ w64 (at z i)) b) ∙ small-kept (at z i) (through-small i (omega arith))) ∙ set-getD z i (pos 0) ∙ t .same a;
+        leftIs = sym (getD-set-same z i (read x) (pos 0) (omega (arith, through-length))) ∙ ap (at (set z i (read x))) is-prev;
+        same = λ f. ap (set z i) (found x (omega arith) (or-right changed (differs x) f)) ∙ set-getD z i (pos 0) ∙ t .same (or-left changed (differs x) f);
       }
         where
           is-prev : i ≡ prev c (i + 1)

@@ -39,8 +39,8 @@ Inner Held n i = (1 ≤ i) × (i + 1 < n)
 Inner Closed n i = i < n
 
 -- the code's row of a row that is present
-abbrev pub told : systems.Row → Row
-told r = record { before = pos (r .before); middle = pos (r .middle); after = pos (r .after); right = r .right }
+abbrev pub codeRow : systems.Row → Row
+codeRow r = record { before = pos (r .before); middle = pos (r .middle); after = pos (r .after); right = r .right }
 
 -- a leg: 1 to 256
 pub record Leg (h : ℤ) : Type 0 where
@@ -59,7 +59,11 @@ pub record Sized (r : Row) : Type 0 where
 abbrev pub Small : ℤ → Type 0
 Small z = natAbs z ≤ 131_399_680_001
 
--- the numbers of some count of passes from zeros
+-- the numbers on an axis after m passes from zeros
+abbrev pub afterPasses : List ℕ → ℕ → ℕ → List ℤ
+afterPasses s axis m = passes (rows (course s axis)) 65536 m (replicate (points s) (pos 0))
+
+-- the numbers of some count of passes
 pub record Reached (s : List ℕ) (axis : ℕ) (z : List ℤ) : Type 0 where
   pub count : ℕ
-  pub numbers : z ≡ passes (rows (course s axis)) 65536 count (replicate (points s) (pos 0))
+  pub numbers : z ≡ afterPasses s axis count

@@ -46,8 +46,9 @@ fn pass(s: &[u8], kind: EndKind, n: usize, axis: usize, z: &mut [i64]) -> bool
     let end = n - i;
     let mut left = z[row::before(i, n)];
     while i < end {
+        let old = z[i];
         let x = renewed(row::row_at(s, kind, n, axis, i), left, z[row::after(i, n)]);
-        changed = changed | (x != z[i]);
+        changed = changed | (x != old);
         z[i] = x;
         left = x;
         i = i + 1;

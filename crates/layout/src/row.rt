@@ -8,7 +8,7 @@ ghost use Rattle.sheet.specs.Fields.{legs, leg, waypoint, slopeBytes};
 ghost use Rattle.sheet.specs.Theorems.{Bounds};
 ghost use Rattle.spline.specs.Spline.{Course, next, prev, innerRow, heldStartRow, heldEndRow, rowOf};
 ghost use Rattle.layout.specs.Course.{course};
-ghost use Rattle.layout.specs.Inside.{OnSheet, HasRow, Inner, told, Sized, Leg};
+ghost use Rattle.layout.specs.Inside.{OnSheet, HasRow, Inner, codeRow, Sized, Leg};
 
 // The factors of a row that is present, and its right side.
 pub struct Row {
@@ -61,7 +61,7 @@ pub fn after(i: usize, n: usize) -> usize
 // 01: "g×g×h × s(i-1) + 2×g×h×(g+h) × s(i) + g×h×h × s(i+1) = g×d - h×e"
 fn inner(g: i64, h: i64, d: i64, e: i64) -> Row
     requires { ⌜ Leg g × Leg h × (natAbs d ≤ 2_000_000) × (natAbs e ≤ 2_000_000) ⌝ }
-    ensures { λ r. ⌜ (r ≡ told (innerRow 2 1 (natAbs g) (natAbs h) d e)) × Sized r ⌝ }
+    ensures { λ r. ⌜ (r ≡ codeRow (innerRow 2 1 (natAbs g) (natAbs h) d e)) × Sized r ⌝ }
 {
     Row {
         before: g * g * h,
@@ -74,7 +74,7 @@ fn inner(g: i64, h: i64, d: i64, e: i64) -> Row
 // 01: "2×h×h × s(0) + h×h × s(1) = d - h×p"
 fn held_start(h: i64, d: i64, p: i64) -> Row
     requires { ⌜ Leg h × (natAbs d ≤ 2_000_000) × (natAbs p ≤ 1_000_000) ⌝ }
-    ensures { λ r. ⌜ (r ≡ told (heldStartRow 2 1 (natAbs h) d p)) × Sized r ⌝ }
+    ensures { λ r. ⌜ (r ≡ codeRow (heldStartRow 2 1 (natAbs h) d p)) × Sized r ⌝ }
 {
     Row {
         before: 0,
@@ -87,7 +87,7 @@ fn held_start(h: i64, d: i64, p: i64) -> Row
 // 01: "g×g × s(N-2) + 2×g×g × s(N-1) = g×p - e"
 fn held_end(g: i64, e: i64, p: i64) -> Row
     requires { ⌜ Leg g × (natAbs e ≤ 2_000_000) × (natAbs p ≤ 1_000_000) ⌝ }
-    ensures { λ r. ⌜ (r ≡ told (heldEndRow 2 1 (natAbs g) e p)) × Sized r ⌝ }
+    ensures { λ r. ⌜ (r ≡ codeRow (heldEndRow 2 1 (natAbs g) e p)) × Sized r ⌝ }
 {
     Row {
         before: g * g,
@@ -100,7 +100,7 @@ fn held_end(g: i64, e: i64, p: i64) -> Row
 // "Inner waypoint, or any waypoint of a closed course"
 fn inner_at(s: &[u8], kind: EndKind, n: usize, axis: usize, i: usize) -> Row
     requires { ⌜ OnSheet (now s) kind n axis × Inner kind n i ⌝ }
-    ensures { λ r. ⌜ (r ≡ told (rowOf 2 1 kind (course (now (s .entry)) axis) i)) × Sized r ⌝ }
+    ensures { λ r. ⌜ (r ≡ codeRow (rowOf 2 1 kind (course (now (s .entry)) axis) i)) × Sized r ⌝ }
 {
     let p = before(i, n);
     let d = step_at(s, kind, n, axis, i, after(i, n));
@@ -111,7 +111,7 @@ fn inner_at(s: &[u8], kind: EndKind, n: usize, axis: usize, i: usize) -> Row
 // A waypoint of a held course.
 fn held_at(s: &[u8], n: usize, axis: usize, i: usize) -> Row
     requires { ⌜ OnSheet (now s) Held n axis × (i < n) ⌝ }
-    ensures { λ r. ⌜ (r ≡ told (rowOf 2 1 Held (course (now (s .entry)) axis) i)) × Sized r ⌝ }
+    ensures { λ r. ⌜ (r ≡ codeRow (rowOf 2 1 Held (course (now (s .entry)) axis) i)) × Sized r ⌝ }
 {
     let kind = EndKind::Held;
     if i == 0 {
@@ -129,7 +129,7 @@ fn held_at(s: &[u8], n: usize, axis: usize, i: usize) -> Row
 // The row of a waypoint that has one.
 pub fn row_at(s: &[u8], kind: EndKind, n: usize, axis: usize, i: usize) -> Row
     requires { ⌜ OnSheet (now s) kind n axis × HasRow kind n i ⌝ }
-    ensures { λ r. ⌜ (r ≡ told (rowOf 2 1 kind (course (now (s .entry)) axis) i)) × Sized r ⌝ }
+    ensures { λ r. ⌜ (r ≡ codeRow (rowOf 2 1 kind (course (now (s .entry)) axis) i)) × Sized r ⌝ }
 {
     match kind {
         EndKind::Free => inner_at(s, kind, n, axis, i),

@@ -27,7 +27,9 @@ part-lay-axis-end : tie.Need-part-lay-axis-end
 part-lay-axis-end c = search needs
 
 lay-axis-requires : tie.Need-lay-axis-requires
-lay-axis-requires c κs = let s = c .before .before in (s .pre .0 0 (omega arith), mid-len 0 (s .args .n) (s .args .list .now) (part-lay-axis-end (c .before)) ∙ omega arith)
+lay-axis-requires c κs =
+    let s = c .before .before in
+    (s .pre .0 0 (omega arith), mid-len 0 (s .args .n) _ (part-lay-axis-end (c .before)) ∙ omega arith)
 
 mul-lay-axis : tie.Need-mul-lay-axis
 mul-lay-axis c = search needs
@@ -42,7 +44,9 @@ part-lay-axis-end-2 : tie.Need-part-lay-axis-end-2
 part-lay-axis-end-2 c = search needs
 
 lay-axis-requires-2 : tie.Need-lay-axis-requires-2
-lay-axis-requires-2 c κs = let s = c .before .before .before .before .before in (s .pre .0 1 (omega arith), mid-len (s .args .n) (2 * s .args .n) _ (part-lay-axis-end-2 (c .before)) ∙ omega arith)
+lay-axis-requires-2 c κs =
+    let s = c .before .before .before .before .before in
+    (s .pre .0 1 (omega arith), mid-len (s .args .n) (2 * s .args .n) _ (part-lay-axis-end-2 (c .before)) ∙ omega arith)
 
 mul-lay-axis-2 : tie.Need-mul-lay-axis-2
 mul-lay-axis-2 c = search needs

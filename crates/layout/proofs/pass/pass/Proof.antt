@@ -14,7 +14,8 @@ use Rattle.layout.specs.Course.{course}
 use Rattle.layout.specs.Inside.{skipped, Small}
 use Rattle.layout.proofs.Given.{two-points, few-points, prev-fits}
 use Rattle.layout.proofs.Made.{read, passed}
-use Rattle.layout.proofs.Sweep.{skipped-few, Through, turn-renews, start-length, through-start, through-length, through-small, through-end, through-turn, small-kept}
+use Rattle.layout.proofs.Sweep.{small-kept, skipped-few, Through, turn-renews, start-length, through-start, through-length, through-small}
+use Rattle.layout.proofs.Sweep.{through-end, through-turn}
 use Rattle.layout.proofs.pass.pass.Statement.{statement}
 use Rattle.layout.proofs.pass.pass.Tie as tie
 
@@ -55,8 +56,8 @@ module _ (a : tie.At-loop Inv-loop μ-loop) where
   abbrev z : List ℤ
   z = a .loop .z
 
-  abbrev c : Course
-  c = course (s .args .s .now) (s .args .axis)
+  abbrev c-of : Course
+  c-of = course (s .args .s .now) (s .args .axis)
 
   same-size : length z ≡ s .args .n
   same-size = through-length (s .pre .0) (s .args .z .now) (s .pre .1) (a .loop .inv)
@@ -64,41 +65,45 @@ module _ (a : tie.At-loop Inv-loop μ-loop) where
   small : (j : ℕ) → j < s .args .n → Small (at z j)
   small = through-small (s .pre .0) (s .args .z .now) (s .pre .1) (a .loop .inv)
 
+  -- a number that is read
+  kept : (j : ℕ) → j < s .args .n → read (at z j) ≡ at z j
+  kept j h = small-kept (at z j) (small j h)
+
 within : (c : tie.In-loop Inv-loop μ-loop) → let a = c .before in a .loop .i + skipped (s a .args .kind) < s a .args .n
 within c = omega (arith, c .loop-test .taken, c .before .before .before .before .skipped .ensures)
 
+mul-old : tie.Need-mul-old Inv-loop μ-loop
+mul-old c = omega (arith, few-points (s (c .before) .pre .0), within c)
+
+slice-copy-out-old : tie.Need-slice-copy-out-old Inv-loop μ-loop
+slice-copy-out-old c = omega (arith, same-size (c .before), within c)
+
 row-at-requires : tie.Need-row-at-requires Inv-loop μ-loop
-row-at-requires c κs = let a = c .before in (s a .pre .0, (a .loop .inv .from, within c))
+row-at-requires c κs = let l = c .before in let a = l .before in (s a .pre .0, (a .loop .inv .from, within l))
 
 after-requires : tie.Need-after-requires Inv-loop μ-loop
-after-requires c κs = omega (arith, within (c .before))
+after-requires c κs = omega (arith, within (c .before .before))
 
 mul-renewed : tie.Need-mul-renewed Inv-loop μ-loop
-mul-renewed c = omega (arith, few-points (s (c .before .before .before) .pre .0), c .after .ensures .0)
+mul-renewed c = omega (arith, few-points (s (c .before .before .before .before) .pre .0), c .after .ensures .0)
 
 slice-copy-out-renewed : tie.Need-slice-copy-out-renewed Inv-loop μ-loop
-slice-copy-out-renewed c = omega (arith, same-size (c .before .before .before), c .after .ensures .0)
+slice-copy-out-renewed c = omega (arith, same-size (c .before .before .before .before), c .after .ensures .0)
 
 renewed-requires : tie.Need-renewed-requires Inv-loop μ-loop
-unfolding course
 renewed-requires c κs =
-    let l = c .before .before .before in let a = l .before in let q = c .before .after in let y = at (z a) (q .result) in (
-      c .before .before .row-at .ensures .1,
-      subst Small (sym (a .loop .inv .leftIs)) (small a (prev (course (s a .args .s .now) (s a .args .axis)) (a .loop .i)) (prev-fits (s a .pre .0) (a .loop .i) (omega (arith, within l)))),
-      subst Small (sym (small-kept y (small a (q .result) (q .ensures .0)))) (small a (q .result) (q .ensures .0)),
+    let f = c .before in let l = f .before .before .before in let a = l .before in let q = f .after in
+    let p-fits = prev-fits (s a .pre .0) (a .loop .i) (omega (arith, within l)) in (
+      f .before .row-at .ensures .1,
+      subst Small (sym (a .loop .inv .leftIs)) (small a (prev (c-of a) (a .loop .i)) p-fits),
+      subst Small (sym (kept a (q .result) (q .ensures .0))) (small a (q .result) (q .ensures .0)),
     )
 
-mul-changed : tie.Need-mul-changed Inv-loop μ-loop
-mul-changed c = let l = c .before .before .before .before in omega (arith, few-points (s (l .before) .pre .0), within l)
-
-slice-copy-out-changed : tie.Need-slice-copy-out-changed Inv-loop μ-loop
-slice-copy-out-changed c = let l = c .before .before .before .before in omega (arith, same-size (l .before), within l)
-
 mul-x : tie.Need-mul-x Inv-loop μ-loop
-mul-x c = mul-changed (c .before)
+mul-x c = mul-old (c .before .before .before .before .before)
 
 slice-set-from-x : tie.Need-slice-set-from-x Inv-loop μ-loop
-slice-set-from-x c = slice-copy-out-changed (c .before)
+slice-set-from-x c = slice-copy-out-old (c .before .before .before .before .before)
 
 add-i : tie.Need-add-i Inv-loop μ-loop
 add-i c = let l = c .before .before .before .before .before in omega (arith, few-points (s (l .before) .pre .0), within l)
@@ -109,11 +114,11 @@ loop-less c = omega (arith, c .before .before .before .before .before .loop-test
 loop-again : tie.Need-loop-again Inv-loop μ-loop
 unfolding course
 loop-again c =
-    let r = c .before in let f = r .before .before in let l = f .before .before in let a = l .before in let o = s a .pre .0 in let q = f .after in
-    let y = small-kept (at (z a) (q .result)) (small a (q .result) (q .ensures .0)) ∙ ap (at (z a)) (q .ensures .1 (course (s a .args .s .now) (s a .args .axis)) (sym (o .samePoints))) in
-    through-turn o (s a .args .z .now) (s a .pre .1) (a .loop .inv) (r .renewed .result) (within l)
-    (passed (r .renewed .ensures) (r .renewed .ok)
-    ∙ turn-renews o (z a) (a .loop .i) (f .before .row-at .result) (toZ w64 (a .loop .left)) (read (at (z a) (q .result))) (f .before .row-at .ensures .0) (a .loop .inv .leftIs) y)
+    let f = c .before .before in let l = f .before .before .before in let a = l .before in let o = s a .pre .0 in let q = f .after in
+    let right = kept a (q .result) (q .ensures .0) ∙ ap (at (z a)) (q .ensures .1 (c-of a) (sym (o .samePoints))) in
+    let row = f .before .row-at in
+    let new = turn-renews o (z a) (a .loop .i) (row .result) (toZ w64 (a .loop .left)) (read (at (z a) (q .result))) (row .ensures .0) (a .loop .inv .leftIs) right in
+    through-turn o (s a .args .z .now) (s a .pre .1) (a .loop .inv) (c .renewed .result) (within l) (passed (c .renewed .ensures) (c .renewed .ok) ∙ new)
 
 -- after the loop
 same-length : tie.Need-same-length Inv-loop μ-loop
@@ -136,13 +141,13 @@ pass-spec =
     mul-left
     slice-copy-out-left
     loop-holds
+    mul-old
+    slice-copy-out-old
     row-at-requires
     after-requires
     mul-renewed
     slice-copy-out-renewed
     renewed-requires
-    mul-changed
-    slice-copy-out-changed
     mul-x
     slice-set-from-x
     add-i

@@ -9,7 +9,7 @@ use Rattle.ends.specs.declared.EndKind.the-variants.{Held}
 use Rattle.sheet.specs.Fields.{leg, waypoint, slope}
 use Rattle.spline.specs.Spline.{Course, stepAfter, stepBefore, heldStartRow, heldEndRow, rowOf}
 use Rattle.layout.specs.Course.{course}
-use Rattle.layout.specs.Inside.{told}
+use Rattle.layout.specs.Inside.{codeRow}
 use Rattle.layout.proofs.Given.{same-legs, two-points, slope-behind}
 use Rattle.layout.proofs.Made.{passed}
 use Rattle.layout.proofs.Neighbours.{prev-later, next-inner}
@@ -18,8 +18,8 @@ use Rattle.layout.proofs.row.held_at.Statement.{statement}
 use Rattle.layout.proofs.row.held_at.Tie as tie
 
 module _ (s : tie.Start) where
-  abbrev c : Course
-  c = course (s .args .s .now) (s .args .axis)
+  abbrev course-of : Course
+  course-of = course (s .args .s .now) (s .args .axis)
 
   abbrev v : ℕ → ℤ
   v = waypoint (s .args .s .now) (s .args .axis)
@@ -46,11 +46,12 @@ returns c =
     let a = c .before .before .before in let s = a .before .before .before in let o = s .pre .0 in
     let l = c .before .before .leg-at in let x = a .step-at in let y = c .before .value-at in
     let h = passed (l .ensures .0) (l .ok) in
-    let d = passed (x .ensures .0) (x .ok) ∙ ap (λ (j : ℕ). v s j -ℤ v s 0) (next-inner (course (s .args .s .now) (s .args .axis)) 0 (omega (arith, o .samePoints, two-points o))) in
+    let one = next-inner (course-of s) 0 (omega (arith, o .samePoints, two-points o)) in
+    let d = passed (x .ensures .0) (x .ok) ∙ ap (λ (j : ℕ). v s j -ℤ v s 0) one in
     let p = passed (y .ensures .0) (y .ok) ∙ ap (v s) (omega arith) ∙ slope-is s 0 in (
       c .held-start .ensures .0
-          ∙ (λ j. told (heldStartRow 2 1 (natAbs (h j)) (d j) (p j)))
-          ∙ sym (ap (λ (k : ℕ). told (rowOf 2 1 Held (course (s .args .s .now) (s .args .axis)) k)) (a .before .if1 .taken) ∙ ap told (held-start-row o refl)),
+          ∙ (λ j. codeRow (heldStartRow 2 1 (natAbs (h j)) (d j) (p j)))
+          ∙ sym (ap codeRow (ap (rowOf 2 1 Held (course-of s)) (a .before .if1 .taken) ∙ held-start-row o refl)),
       c .held-start .ensures .1,
     )
 
@@ -80,13 +81,13 @@ unfolding course stepBefore
 returns-2 c =
     let a = c .before .before .before in let s = a .before .before .before .before in let o = s .pre .0 in let i = s .args .i in
     let l = c .before .before .leg-at2 in let x = a .step-at2 in let y = c .before .value-at2 in
-    let q = prev-later (course (s .args .s .now) (s .args .axis)) i (omega arith) in
+    let q = prev-later (course-of s) i (omega arith) in
     let g = passed (l .ensures .0) (l .ok) ∙ ap (λ (j : ℕ). pos (leg (s .args .s .now) j)) q in
     let e = passed (x .ensures .0) (x .ok) ∙ ap (λ (j : ℕ). v s i -ℤ v s j) q in
     let p = passed (y .ensures .0) (y .ok) ∙ slope-is s 1 in (
       c .held-end .ensures .0
-          ∙ (λ j. told (heldEndRow 2 1 (natAbs (g j)) (e j) (p j)))
-          ∙ sym (ap told (held-end-row o refl i (a .before .if2 .taken))),
+          ∙ (λ j. codeRow (heldEndRow 2 1 (natAbs (g j)) (e j) (p j)))
+          ∙ sym (ap codeRow (held-end-row o refl i (a .before .if2 .taken))),
       c .held-end .ensures .1,
     )
 

@@ -7,7 +7,7 @@ use lib.IntN.{pos, natAbs, _-ℤ_}
 use Rattle.sheet.specs.Fields.{leg, waypoint}
 use Rattle.spline.specs.Spline.{Course, next, prev, stepAfter, stepBefore, innerRow}
 use Rattle.layout.specs.Course.{course}
-use Rattle.layout.specs.Inside.{told}
+use Rattle.layout.specs.Inside.{codeRow}
 use Rattle.layout.proofs.Given.{same-legs, few-legs}
 use Rattle.layout.proofs.Made.{passed}
 use Rattle.layout.proofs.Rows.{shared-legs, inner-row}
@@ -59,14 +59,15 @@ inner-requires c κs = search needs
 returns : tie.Need-returns
 unfolding course stepAfter stepBefore
 returns c =
-    let f = c .before .before .before .before .before in let s = f .before .before .before in let o = s .pre .0 in
-    let S = s .args .s .now in let v = waypoint S (s .args .axis) in
-    let l = c .before .before .leg-at in let m = c .before .leg-at2 in let x = c .before .before .before .before .step-at in let y = c .before .before .before .step-at2 in
-    let g = passed (l .ensures .0) (l .ok) ∙ ap (λ (j : ℕ). pos (leg S j)) (p-is (f .before)) in
-    let h = passed (m .ensures .0) (m .ok) in
-    let d = passed (x .ensures .0) (x .ok) ∙ ap (λ (j : ℕ). v j -ℤ v (i s)) (q-is f) in
-    let e = passed (y .ensures .0) (y .ok) ∙ ap (λ (j : ℕ). v (i s) -ℤ v j) (p-is (f .before)) in (
-      c .inner .ensures .0 ∙ (λ j. told (innerRow 2 1 (natAbs (g j)) (natAbs (h j)) (d j) (e j))) ∙ sym (ap told (inner-row o (i s) (s .pre .1))),
+    let e = c .before .before .before in let d = e .before in let q = d .before in let p = q .before in let s = p .before .before in
+    let S = s .args .s .now in let v = waypoint S (s .args .axis) in let l = c .before .before .leg-at in let m = c .before .leg-at2 in
+    let gs = passed (l .ensures .0) (l .ok) ∙ ap (λ (j : ℕ). pos (leg S j)) (p-is p) in
+    let hs = passed (m .ensures .0) (m .ok) in
+    let ds = passed (d .step-at .ensures .0) (d .step-at .ok) ∙ ap (λ (j : ℕ). v j -ℤ v (i s)) (q-is q) in
+    let es = passed (e .step-at2 .ensures .0) (e .step-at2 .ok) ∙ ap (λ (j : ℕ). v (i s) -ℤ v j) (p-is p) in (
+      c .inner .ensures .0
+          ∙ (λ j. codeRow (innerRow 2 1 (natAbs (gs j)) (natAbs (hs j)) (ds j) (es j)))
+          ∙ sym (ap codeRow (inner-row (s .pre .0) (i s) (s .pre .1))),
       c .inner .ensures .1,
     )
 

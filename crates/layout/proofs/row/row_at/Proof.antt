@@ -5,7 +5,7 @@ use borrow.Author.Needs.{needs}
 use Rattle.ends.specs.declared.EndKind.{EndKind}
 use Rattle.spline.specs.Spline.{rowOf}
 use Rattle.layout.specs.Course.{course}
-use Rattle.layout.specs.Inside.{HasRow, Inner, told}
+use Rattle.layout.specs.Inside.{HasRow, Inner, codeRow}
 use Rattle.layout.proofs.row.row_at.Statement.{statement}
 use Rattle.layout.proofs.row.row_at.Tie as tie
 
@@ -37,8 +37,9 @@ returns c = search needs
 
 returns-2 : tie.Need-returns-2
 returns-2 c =
-    let s = c .before .before .before .before in
-    (c .held-at .ensures .0 ∙ sym (ap (λ (k : EndKind). told (rowOf 2 1 k (course (s .args .s .now) (s .args .axis)) (s .args .i))) (c .before .enum-told2 .given .1)), c .held-at .ensures .1)
+    let g = c .before .before .before .before .args in
+    let e = ap (λ (k : EndKind). codeRow (rowOf 2 1 k (course (g .s .now) (g .axis)) (g .i))) (c .before .enum-told2 .given .1) in
+    (c .held-at .ensures .0 ∙ sym e, c .held-at .ensures .1)
 
 returns-3 : tie.Need-returns-3
 returns-3 c = search needs

@@ -4,17 +4,15 @@ use Prim.Native.Nat.{ℕ, _+_, _*_, _≤_}
 use native.Mathlib.Omega.{arith}
 use borrow.Author.Needs.{needs}
 use lib.ListN.{length}
-use mir.Syntax.{w64}
-use mir.Val.{toZ, ofZ}
-use mir.ValLaws.{toZ-ofZ}
 use Rattle.sheet.specs.Bytes.{be32, signed32}
 use Rattle.sheet.specs.Fields.{waypoint}
 use Rattle.layout.proofs.Given.{same-legs, sheet-size, two-points, value-small}
+use Rattle.layout.proofs.Made.{read, passed}
 use Rattle.layout.proofs.row.value_at.Statement.{statement}
 use Rattle.layout.proofs.row.value_at.Tie as tie
 
 -- the last of the four bytes is one of the sheet's
-inside : (c : tie.After-leg-count) → 8 + 2 * c .leg-count .result + 12 * c .before .before .args .i + 4 * c .before .before .args .axis + 4 ≤ length (c .before .before .args .s .now)
+inside : (c : tie.After-leg-count) → let g = c .before .before .args in 8 + 2 * c .leg-count .result + 12 * g .i + 4 * g .axis + 4 ≤ length (g .s .now)
 inside c = let o = c .before .before .pre .0 in omega (arith, sheet-size o, o .axisFits)
 
 leg-count-requires : tie.Need-leg-count-requires
@@ -43,11 +41,22 @@ read-signed-requires c κs = inside c
 
 returns : tie.Need-returns
 returns c =
-    let s = c .before .before .before in
-    let e : toZ w64 (ofZ w64 (c .read-signed .result)) ≡ waypoint (s .args .s .now) (s .args .axis) (s .args .i) =
-    toZ-ofZ w64 (c .read-signed .result) (record { sfits = c .read-signed .ok }) ∙ c .read-signed .ensures .0 ∙ ap (λ (at : ℕ). signed32 (be32 (s .args .s .now) at)) (omega (arith, c .before .leg-count .ensures, same-legs (s .pre .0))) in
-    (e, rw e (value-small (s .pre .0) (s .args .i) (s .pre .1)))
+    let s = c .before .before .before in let S = s .args .s .now in
+    let r : read (c .read-signed .result) ≡ waypoint S (s .args .axis) (s .args .i) =
+    passed (c .read-signed .ensures .0 ∙ ap (λ (at : ℕ). signed32 (be32 S at)) (omega (arith, c .before .leg-count .ensures, same-legs (s .pre .0))))
+    (c .read-signed .ok) in
+    (r, rw r (value-small (s .pre .0) (s .args .i) (s .pre .1)))
 
 pub value-at-spec : {M : Type 1} → statement M
-value-at-spec = tie.close
-    (tie.spec leg-count-requires mul-read-signed add-read-signed mul-read-signed-2 add-read-signed-2 mul-read-signed-3 add-read-signed-3 read-signed-requires returns)
+value-at-spec =
+    tie.close
+    (tie.spec
+    leg-count-requires
+    mul-read-signed
+    add-read-signed
+    mul-read-signed-2
+    add-read-signed-2
+    mul-read-signed-3
+    add-read-signed-3
+    read-signed-requires
+    returns)
