@@ -1,4 +1,4 @@
-pub mod Sizes
+pub mod Numerator
 pub mod Fitting
 pub mod Answer
 pub mod Entry

@@ -2,7 +2,7 @@
 use mathlib.Core.Path.{_≡_, refl, _∙_, ap, subst⁻¹}
 use mathlib.Core.Bool.{Bool, true, false, _&&_}
 use mathlib.Core.List.{List}
-use Prim.Native.Nat.{ℕ, zero, suc, _*_, _^_, _≤_, _<_}
+use Prim.Native.Nat.{ℕ, suc, _*_, _^_, _≤_, _<_}
 use native.Mathlib.Omega.{arith}
 use lib.Dec.{ltb}
 use lib.IntN.{ℤ, pos, negsuc, natAbs}
@@ -17,7 +17,7 @@ use Rattle.sheet.specs.Reading.{outside, readSheet}
 use Rattle.sheet.specs.Theorems.{Accepted}
 use Rattle.sheet.specs.declared.Refusal.the-variants.{Shelf, Past, Adrift, Bend}
 use Rattle.sheet.proofs.ByKind.{legs-at-most}
-use Rattle.sheet.proofs.Laws.{accepted-read, accepted-bounds}
+use Rattle.sheet.proofs.Laws.{accepted-read}
 use Rattle.answers.specs.Answers.{done, passOn, guard}
 use Rattle.systems.specs.Passes.{at, sweep}
 use Rattle.spline.specs.Spline as spline
@@ -29,15 +29,15 @@ use Rattle.spline.proofs.OneCurve.{one-curve}
 use Rattle.spline.proofs.Bends.{bends-bounded, position-near}
 use Rattle.spline.proofs.Waypoints.{next-lt}
 use Rattle.layout.specs.Course.{course}
-use Rattle.layout.specs.Layout.{short, layOut, laidOut}
+use Rattle.layout.specs.Layout.{short, layOut}
 use Rattle.layout.proofs.Near.{course-in-bounds}
 use Rattle.runner.specs.Ticks.{runner, isOpen, past, spotAt}
 use Rattle.runner.specs.Steps.{adrift}
 use Rattle.runner.proofs.Standing.{Standing, on-leg, at-end, standing, tick-stands}
 use Rattle.runner.specs.declared.Runner.{Runner}
 use Rattle.place.specs.Places.{bendOf, bendOutside, endOf, placed, placeOn, placeAtTick, placeOfRunner}
-use Rattle.station.specs.Claim.{Own, Answers, Answered, Demand3, Claim}
-use Rattle.station.proofs.Own.{each-axis, laid-when-done, own-long, own-bend}
+use Rattle.station.specs.Claim.{Own, Answers, Answered, Claim}
+use Rattle.station.proofs.Own.{laid-when-done, own-long, own-bend}
 
 -- a number of at most a in size is not outside -a to a
 within-limits : (a : ℕ) (z : ℤ) → natAbs z ≤ suc a → outside (suc a) (suc a) z ≡ false

@@ -1,12 +1,12 @@
 -- `place::place_at` meets its contract: the six numbers asked are the definition's, and each axis gets its number.
-use mathlib.Core.Path.{_≡_, refl, sym, _∙_}
+use mathlib.Core.Path.{_≡_, sym, _∙_}
 use mathlib.Core.Bool.{false, _||_}
 use mathlib.Core.List.{List, [], _∷_}
 use Prim.Native.Nat.{ℕ, _+_, _*_}
 use native.Mathlib.Omega.{arith}
 use borrow.Author.Needs.{needs}
 use lib.IntN.{ℤ}
-use Rattle.integers.proofs.Machine.{back}
+use Rattle.layout.proofs.Made.{passed}
 use Rattle.sheet.specs.Bytes.{anyBelow}
 use Rattle.systems.specs.Passes.{at}
 use Rattle.runner.specs.declared.Runner.{Runner}
@@ -67,9 +67,9 @@ place-on-requires-3 c κs = let e = c .before .before in (fitting (e .before .be
 returns-2 : tie.Need-returns-2
 returns-2 c =
     let b = c .before in let a = b .before in let e = a .before in
-    let north = back refl (record { sfits = a .place-on .ok }) ∙ a .place-on .ensures in
-    let east = back refl (record { sfits = b .place-on2 .ok }) ∙ b .place-on2 .ensures in
-    let up = back refl (record { sfits = c .place-on3 .ok }) ∙ c .place-on3 .ensures in
+    let north = passed (a .place-on .ensures) (a .place-on .ok) in
+    let east = passed (b .place-on2 .ensures) (b .place-on2 .ok) in
+    let up = passed (c .place-on3 .ensures) (c .place-on3 .ok) in
     let free = within e in
     ((λ i. record { number = 0; values = north i ∷ east i ∷ up i ∷ [] }) ∙ simp free, (λ i. north i ∷ east i ∷ up i ∷ []) ∙ simp free)
 

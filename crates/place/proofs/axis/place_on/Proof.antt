@@ -1,18 +1,16 @@
 -- `place::axis::place_on` meets its contract: the six numbers that it reads are those of the definition, and within the limits that `position` asks for.
-use mathlib.Core.Path.{_≡_, refl, sym, ap, _∙_, transport}
+use mathlib.Core.Path.{_≡_, ap, _∙_}
 use mathlib.Core.List.{List}
 use Prim.Native.Nat.{ℕ, _+_, _*_, _<_}
 use native.Mathlib.Omega.{arith}
-use lib.IntN.{ℤ}
-use mir.Syntax.{w64}
-use mir.Val.{toZ, ofZ}
-use Rattle.integers.proofs.Machine.{back}
+use lib.IntN.{ℤ, natAbs}
+use Rattle.layout.proofs.Made.{read, passed}
 use Rattle.sheet.specs.Fields.{leg, waypoint}
 use Rattle.spline.specs.Position.{position}
 use Rattle.systems.specs.Passes.{at}
 use Rattle.runner.specs.declared.Runner.{Runner}
 use Rattle.place.specs.Places.{endOf, bendOf, placeOn}
-use Rattle.place.specs.Asked.{OnLeg, Fitting}
+use Rattle.place.specs.Asked.{Fitting}
 use Rattle.place.proofs.Fitting.{start-fits, end-is, list-room, leg-room, waypoint-room, numbers-fit}
 use Rattle.place.proofs.axis.place_on.Statement.{statement}
 use Rattle.place.proofs.axis.place_on.Tie as tie
@@ -60,9 +58,7 @@ bend-of-requires-2 c κs =
     let e = c .before .before .before .before in let s = e .before .before in
     (list-room (fitting s), s .pre .1 .1, e .end-of .ensures .1)
 
--- the numbers read, as the machine reads them back
-abbrev read : ℤ → ℤ
-read x = toZ w64 (ofZ w64 x)
+-- the numbers read
 
 module _ (c : tie.After-bend-of2) where
   abbrev ended : tie.After-end-of
@@ -81,31 +77,31 @@ module _ (c : tie.After-bend-of2) where
   h-is = c .before .before .before .before .leg-length .ensures
 
   v-is : read (c .before .before .before .waypoint-on .result) ≡ waypoint (sheet s) (axis s) (start s)
-  v-is = let k = c .before .before .before .waypoint-on in back refl (record { sfits = k .ok }) ∙ k .ensures
+  v-is = let k = c .before .before .before .waypoint-on in passed (k .ensures) (k .ok)
 
   w-is : read (c .before .before .waypoint-on2 .result) ≡ waypoint (sheet s) (axis s) end
-  w-is = let k = c .before .before .waypoint-on2 in back refl (record { sfits = k .ok }) ∙ k .ensures ∙ ap (waypoint (sheet s) (axis s)) end-is-read
+  w-is = let k = c .before .before .waypoint-on2 in passed (k .ensures) (k .ok) ∙ ap (waypoint (sheet s) (axis s)) end-is-read
 
   z-is : read (c .before .bend-of .result) ≡ bendOf (sheet s) (list s) (axis s) (start s)
-  z-is = let k = c .before .bend-of in back refl (record { sfits = k .ok }) ∙ k .ensures ∙ ap (λ n. at (list s) (axis s * n + start s)) (fitting s .is-points)
+  z-is = let k = c .before .bend-of in passed (k .ensures) (k .ok) ∙ ap (λ n. at (list s) (axis s * n + start s)) (fitting s .is-points)
 
   y-is : read (c .bend-of2 .result) ≡ bendOf (sheet s) (list s) (axis s) end
   y-is =
       let k = c .bend-of2 in
-      back refl (record { sfits = k .ok }) ∙ k .ensures ∙ (λ i. at (list s) (axis s * fitting s .is-points i + end-is-read i))
+      passed (k .ensures) (k .ok) ∙ (λ i. at (list s) (axis s * fitting s .is-points i + end-is-read i))
 
 position-requires : tie.Need-position-requires
 position-requires c κs =
-    let k = s c in let f = fitting k in
+    let k = s c in
     let inside : end c < k .args .points = omega (arith, end-is-read c, ended c .end-of .ensures .1) in
-    transport (λ i. OnLeg (sym (h-is c) i) (runner k .offset) (sym (v-is c) i) (sym (w-is c) i) (sym (z-is c) i) (sym (y-is c) i))
-    (numbers-fit f (k .pre .1 .0) (axis k) (k .pre .1 .1) inside)
+    let fit = numbers-fit (fitting k) (k .pre .1 .0) (axis k) (k .pre .1 .1) inside in
+    omega (arith, h-is c, ap natAbs (v-is c), ap natAbs (w-is c), ap natAbs (z-is c), ap natAbs (y-is c))
 
 returns : tie.Need-returns
 unfolding placeOn
 returns c =
     let k = c .before in
-    back refl (record { sfits = c .position .ok }) ∙ c .position .ensures
+    passed (c .position .ensures) (c .position .ok)
     ∙ (λ i. position (h-is k i) (runner (s k) .offset) (v-is k i) (w-is k i) (z-is k i) (y-is k i))
 
 pub place-on-spec : {M : Type 1} → statement M

@@ -1,8 +1,8 @@
 -- `place::axis::waypoint_on` meets its contract: the byte index is the definition's, the number of legs being the sheet's.
-use mathlib.Core.Path.{refl, ap, _∙_}
+use mathlib.Core.Path.{ap, _∙_}
 use Prim.Native.Nat.{_+_, _*_}
 use borrow.Author.Needs.{needs}
-use Rattle.integers.proofs.Machine.{back}
+use Rattle.layout.proofs.Made.{passed}
 use Rattle.sheet.specs.Bytes.{be32, signed32}
 use Rattle.place.proofs.axis.waypoint_on.Statement.{statement}
 use Rattle.place.proofs.axis.waypoint_on.Tie as tie
@@ -31,7 +31,7 @@ read-signed-requires c κs = search needs
 returns : tie.Need-returns
 returns c =
     let s = c .before .before in let a = s .args in
-    back refl (record { sfits = c .read-signed .ok }) ∙ c .read-signed .ensures .0
+    passed (c .read-signed .ensures .0) (c .read-signed .ok)
     ∙ ap (λ l. signed32 (be32 (a .s .now) (8 + 2 * l + 12 * a .i + 4 * a .axis))) (s .pre .0)
 
 pub waypoint-on-spec : {M : Type 1} → statement M
