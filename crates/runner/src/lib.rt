@@ -3,9 +3,11 @@ mod steps;
 mod ticks;
 
 use sheet::Refusal;
+pub use steps::Stepped;
 pub use steps::is_adrift;
 pub use steps::step;
 pub use steps::step_at;
+pub use steps::step_record;
 pub use ticks::is_past;
 pub use ticks::leg_length;
 pub use ticks::runner_at_tick;

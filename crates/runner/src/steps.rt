@@ -120,3 +120,16 @@ pub fn step(s: &[u8], r: &mut Runner) -> Outcome
     r.offset = n.offset;
     n.outcome
 }
+
+// The step on a record of its own: what a caller that keeps leg and offset as numbers uses, and what the gate's program runs the lent step through.
+pub fn step_record(s: &[u8], leg: u64, offset: u64) -> Stepped
+    ensures { λ r. ⌜ (toldOutcome (r .outcome) ≡ stepAnswer (now (s .entry)) (runner leg offset)) × (runner (r .leg) (r .offset) ≡ onward (now (s .entry)) (runner leg offset)) ⌝ }
+{
+    let mut r = Runner { leg, offset };
+    let outcome = step(s, &mut r);
+    Stepped {
+        leg: r.leg,
+        offset: r.offset,
+        outcome,
+    }
+}

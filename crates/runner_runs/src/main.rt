@@ -1,9 +1,11 @@
 // Runners on four small sheets, a line to a case: the runner at each tick up to P + 1, steps three times round the closed courses and past the end of the
-// open ones, the last of the unsigned 64-bit ticks, runners that are adrift or have landed, and a sheet that is torn.
+// open ones, the last of the unsigned 64-bit ticks, runners that are adrift or have landed, and a sheet that is torn. Each step is made on a lent record.
+use answers::Outcome;
 use libc::STDOUT_FILENO;
 use runner::RunnerAnswer;
+use runner::Stepped;
 use runner::runner_at_tick;
-use runner::step_at;
+use runner::step_record;
 use sheet::Refusal;
 
 const LAST: u64 = 18446744073709551615;
@@ -22,14 +24,16 @@ fn print_refusal(refusal: Refusal) {
     }
 }
 
+fn print_runner(leg: u64, offset: u64) {
+    print(b"leg ");
+    io::print_decimal(STDOUT_FILENO, leg);
+    print(b" offset ");
+    io::print_decimal(STDOUT_FILENO, offset);
+}
+
 fn print_answer(answer: RunnerAnswer) {
     match answer {
-        RunnerAnswer::At(r) => {
-            print(b"leg ");
-            io::print_decimal(STDOUT_FILENO, r.leg);
-            print(b" offset ");
-            io::print_decimal(STDOUT_FILENO, r.offset);
-        }
+        RunnerAnswer::At(r) => print_runner(r.leg, r.offset),
         RunnerAnswer::Refused(refusal) => print_refusal(refusal),
     }
     print(b"\n");
@@ -51,27 +55,31 @@ fn show_ticks(name: &[u8], s: &[u8], count: u64) {
 }
 
 // A step of a runner that may be anywhere.
-fn show_step(name: &[u8], s: &[u8], leg: u64, offset: u64) -> RunnerAnswer {
+fn show_step(name: &[u8], s: &[u8], leg: u64, offset: u64) -> Stepped {
     print(name);
     print(b" from ");
     io::print_decimal(STDOUT_FILENO, leg);
     print(b" ");
     io::print_decimal(STDOUT_FILENO, offset);
     print(b": ");
-    let answer = step_at(s, leg, offset);
-    print_answer(answer);
-    answer
+    let after = step_record(s, leg, offset);
+    let outcome = after.outcome;
+    match outcome {
+        Outcome::Done => print_runner(after.leg, after.offset),
+        Outcome::Refused(refusal) => print_refusal(refusal),
+    }
+    print(b"\n");
+    after
 }
 
-// Steps from the first waypoint.
+// Steps from the first waypoint. A refused one leaves the runner where it stands.
 fn show_steps(name: &[u8], s: &[u8], count: u64) {
     let mut leg = 0;
     let mut offset = 0;
     for _ in 0..count {
-        if let RunnerAnswer::At(r) = show_step(name, s, leg, offset) {
-            leg = r.leg;
-            offset = r.offset;
-        }
+        let after = show_step(name, s, leg, offset);
+        leg = after.leg;
+        offset = after.offset;
     }
 }
 

@@ -16,12 +16,6 @@ loop-holds c = search needs
 show-step-requires : tie.Need-show-step-requires Inv-loop μ-loop
 show-step-requires c κs = search needs
 
-enum-known-r : tie.Need-enum-known-r Inv-loop μ-loop
-enum-known-r c = search needs
-
-enum-told : tie.Need-enum-told Inv-loop μ-loop
-enum-told c = search needs
-
 add-counter : tie.Need-add-counter Inv-loop μ-loop
 add-counter c = search needs
 
@@ -42,8 +36,6 @@ show-steps-spec =
     μ-loop
     loop-holds
     show-step-requires
-    enum-known-r
-    enum-told
     add-counter
     loop-less
     loop-again
