@@ -1,0 +1,56 @@
+-- Values put at the front of a slice, one store at a time, are the definition's; and what is told decides what is written.
+use mathlib.Core.Path.{_≡_, refl, sym, ap}
+use mathlib.Core.Bool.{Bool, cond}
+use mathlib.Core.List.{List, [], _∷_, _++_}
+use Prim.Native.Nat.{ℕ, _≤_, _<_}
+use native.Mathlib.Omega.{arith}
+use lib.Dec.{eqb, leb}
+use lib.IntN.{ℤ, pos}
+use lib.ListN.{length, drop, set, getD}
+use borrow.Author.Tests.{le-leb, lt-leb, ne-eqb}
+use Rattle.sheet.proofs.Told.{number-positive}
+use Rattle.sheet.specs.Answers.{refused}
+use Rattle.sheet.specs.declared.Refusal.{Refusal}
+use Rattle.exports.specs.Written.{put, written, writtenUnsigned}
+
+module _ {A : Type 0} where
+  pub put-room : (values out : List A) → length values ≤ length out → values ++ drop (length values) out ≡ put values out
+  unfolding put
+  put-room values out h = sym (ap (λ (b : Bool). cond b (values ++ drop (length values) out) out) (le-leb (length values) (length out) h))
+
+  pub put-none : (values out : List A) → length out < length values → out ≡ put values out
+  unfolding put
+  put-none values out h = sym (ap (λ (b : Bool). cond b (values ++ drop (length values) out) out) (lt-leb (length values) (length out) h))
+
+  -- three stores, and two
+  pub three-stored : (a b c : A) (out : List A) → 3 ≤ length out → set (set (set out 0 a) 1 b) 2 c ≡ put (a ∷ b ∷ c ∷ []) out
+  three-stored a b c [] h = absurd (omega arith)
+  three-stored a b c (x ∷ []) h = absurd (omega arith)
+  three-stored a b c (x ∷ y ∷ []) h = absurd (omega arith)
+  three-stored a b c (x ∷ y ∷ z ∷ out) h = put-room (a ∷ b ∷ c ∷ []) (x ∷ y ∷ z ∷ out) h
+
+  pub two-stored : (a b : A) (out : List A) → 2 ≤ length out → set (set out 0 a) 1 b ≡ put (a ∷ b ∷ []) out
+  two-stored a b [] h = absurd (omega arith)
+  two-stored a b (x ∷ []) h = absurd (omega arith)
+  two-stored a b (x ∷ y ∷ out) h = put-room (a ∷ b ∷ []) (x ∷ y ∷ out) h
+
+-- a list of three is its elements
+pub three-elements : (l : List ℤ) → length l ≡ 3 → getD l 0 (pos 0) ∷ getD l 1 (pos 0) ∷ getD l 2 (pos 0) ∷ [] ≡ l
+three-elements [] h = absurd (omega arith)
+three-elements (x ∷ []) h = absurd (omega arith)
+three-elements (x ∷ y ∷ []) h = absurd (omega arith)
+three-elements (x ∷ y ∷ z ∷ []) h = refl
+three-elements (x ∷ y ∷ z ∷ w ∷ l) h = absurd (omega arith)
+
+-- a refusal writes nothing
+module _ (r : Refusal) where
+  not-zero : refused r .number ≡ 0 → ⊥
+  not-zero e = omega (arith, number-positive r)
+
+  pub refused-written : (out : List ℤ) → out ≡ written (refused r) out
+  unfolding written
+  refused-written out = sym (ap (λ (b : Bool). cond b (put [] out) out) (ne-eqb (refused r .number) 0 not-zero))
+
+  pub refused-unsigned : (out : List ℕ) → out ≡ writtenUnsigned (refused r) out
+  unfolding writtenUnsigned
+  refused-unsigned out = sym (ap (λ (b : Bool). cond b (put [] out) out) (ne-eqb (refused r .number) 0 not-zero))

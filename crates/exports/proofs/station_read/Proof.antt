@@ -1,0 +1,58 @@
+-- `exports::station_read` meets its contract: the reader's answer decides what is written.
+use mathlib.Core.Path.{sym, ap, _∙_}
+use mathlib.Core.List.{[], _∷_}
+use Prim.Native.Nat.{ℕ}
+use Rattle.sheet.specs.Answers.{told}
+use Rattle.exports.specs.Written.{put}
+use Rattle.exports.proofs.Tell.{done-unsigned, kept-unsigned}
+use borrow.Author.Needs.{needs}
+use Rattle.exports.proofs.station_read.Statement.{statement}
+use Rattle.exports.proofs.station_read.Tie as tie
+
+read-requires : tie.Need-read-requires
+read-requires c κs = search needs
+
+enum-known-kind : tie.Need-enum-known-kind
+enum-known-kind c = search needs
+
+kind-number-requires : tie.Need-kind-number-requires
+kind-number-requires c κs = search needs
+
+put-three-requires : tie.Need-put-three-requires
+put-three-requires c κs = search needs
+
+enum-known-r : tie.Need-enum-known-r
+enum-known-r c = search needs
+
+number-of-requires : tie.Need-number-of-requires
+number-of-requires c κs = search needs
+
+same-length : tie.Need-same-length
+same-length c = search needs
+
+returns : tie.Need-returns
+returns c =
+    let k = c .before .before .before .before .before .before in
+    let g = k .kind .given .0 in let a = k .before .before in
+    done-unsigned _ _ (ap told (sym (k .kind .given .1)) ∙ a .read .ensures) _ _
+    (c .before .before .put-three .ensures
+    ∙ ap (λ (n : ℕ). put (n ∷ g .1 .0 ∷ g .1 .1 .0 ∷ []) (a .before .before .before .args .out .now)) (c .before .before .before .kind-number .ensures))
+
+returns-2 : tie.Need-returns-2
+returns-2 c =
+    let r = c .before .before in
+    kept-unsigned _ (r .r .given .0 .0) (ap told (sym (r .r .given .1)) ∙ r .before .before .read .ensures) _ (c .number-of .ensures) _
+
+pub station-read-spec : {M : Type 1} → statement M
+station-read-spec =
+    tie.close
+    (tie.spec
+    read-requires
+    enum-known-kind
+    kind-number-requires
+    put-three-requires
+    enum-known-r
+    number-of-requires
+    same-length
+    returns
+    returns-2)

@@ -1,0 +1,42 @@
+-- `exports::tell_runner` meets its contract: two numbers are written, or a refusal's number is given.
+use mathlib.Core.Path.{sym, ap}
+use Rattle.runner.specs.Ticks.{toldRunner}
+use Rattle.exports.proofs.Tell.{done-unsigned, kept-unsigned}
+use borrow.Author.Needs.{needs}
+use Rattle.exports.proofs.tell_runner.Statement.{statement}
+use Rattle.exports.proofs.tell_runner.Tie as tie
+
+enum-known-answer : tie.Need-enum-known-answer
+enum-known-answer c = search needs
+
+put-two-requires : tie.Need-put-two-requires
+put-two-requires c κs = search needs
+
+enum-known-answer-2 : tie.Need-enum-known-answer-2
+enum-known-answer-2 c = search needs
+
+number-of-requires : tie.Need-number-of-requires
+number-of-requires c κs = search needs
+
+same-length : tie.Need-same-length
+same-length c = search needs
+
+returns : tie.Need-returns
+returns c =
+    let a = c .before .before .before .before .before .answer in
+    done-unsigned _ _ (ap toldRunner (sym (a .given .1))) _ _ (c .before .before .put-two .ensures)
+
+returns-2 : tie.Need-returns-2
+returns-2 c = let a = c .before .before .answer2 in kept-unsigned _ (a .given .0 .0) (ap toldRunner (sym (a .given .1))) _ (c .number-of .ensures) _
+
+pub tell-runner-spec : {M : Type 1} → statement M
+tell-runner-spec =
+    tie.close
+    (tie.spec
+    enum-known-answer
+    put-two-requires
+    enum-known-answer-2
+    number-of-requires
+    same-length
+    returns
+    returns-2)

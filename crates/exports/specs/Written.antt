@@ -1,0 +1,28 @@
+-- What an exported function leaves in the slice that is lent for its results: numbers and slices only, no struct crosses the boundary.
+use mathlib.Core.Bool.{cond}
+use mathlib.Core.List.{List, _++_, map}
+use Prim.Native.Nat.{ℕ}
+use lib.Dec.{eqb, leb}
+use lib.IntN.{ℤ, natAbs}
+use lib.ListN.{length, drop, getD}
+use Rattle.sheet.specs.Answers.{Told, refused}
+use Rattle.sheet.specs.Reading.{readSheet}
+use Rattle.sheet.specs.declared.Refusal.the-variants.{Adrift}
+use Rattle.answers.specs.Answers.{passOn}
+use Rattle.runner.specs.Ticks.{runner}
+use Rattle.runner.specs.Steps.{stepped}
+
+-- the values at the front of the slice where it has room for them, and the slice as it was where it has not; the rest is kept
+unfoldable pub put : {A : Type 0} → List A → List A → List A
+put values out = cond (leb (length values) (length out)) (values ++ drop (length values) out) out
+
+-- results are written only where the call is not refused: whole numbers, and unsigned ones
+unfoldable pub written : Told → List ℤ → List ℤ
+written t out = cond (eqb (t .number) 0) (put (t .values) out) out
+
+unfoldable pub writtenUnsigned : Told → List ℕ → List ℕ
+writtenUnsigned t out = cond (eqb (t .number) 0) (put (map natAbs (t .values)) out) out
+
+-- a lent runner is two numbers, leg and offset; a shorter slice holds no runner, which is adrift
+unfoldable pub steppedSlice : List ℕ → List ℕ → Told
+steppedSlice s r = cond (leb 2 (length r)) (stepped s (runner (getD r 0 0) (getD r 1 0))) (passOn (readSheet s) (refused Adrift))

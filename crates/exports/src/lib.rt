@@ -1,0 +1,178 @@
+// The C boundary (include/station.h): the station's calls on numbers and slices. A slice is a pointer, then a length. Each function answers 0 or 01's number,
+// and writes its results only when it answers 0 and the lent slice has room for them.
+use answers::Outcome;
+use ends::EndKind;
+use place::Placed;
+use runner::Runner;
+use runner::RunnerAnswer;
+use sheet::Reading;
+use sheet::number_of;
+ghost use mathlib.Core.Path.{_≡_};
+ghost use mathlib.Core.List.{[], _∷_};
+ghost use lib.ListN.{length};
+ghost use Rattle.ends.specs.Ends.{kindNumber};
+ghost use Rattle.sheet.specs.Answers.{told};
+ghost use Rattle.sheet.specs.Reading.{readSheet};
+ghost use Rattle.layout.specs.Layout.{layOut, laidOut};
+ghost use Rattle.runner.specs.Ticks.{runner, toldRunner, runnerAtTick};
+ghost use Rattle.place.specs.Places.{toldPlaced, placeAtTick, placeOfRunner};
+ghost use Rattle.exports.specs.Written.{put, written, writtenUnsigned, steppedSlice};
+
+fn kind_number(kind: EndKind) -> u64
+    ensures { λ r. ⌜ r ≡ kindNumber kind ⌝ }
+{
+    match kind {
+        EndKind::Free => 0,
+        EndKind::Held => 1,
+        EndKind::Closed => 2,
+    }
+}
+
+fn put_three(out: &mut [u64], a: u64, b: u64, c: u64)
+    ensures { λ _. ⌜ now (out .exit) ≡ put (a ∷ b ∷ c ∷ []) (now (out .entry)) ⌝ }
+{
+    if 3 <= out.len() {
+        out[0] = a;
+        out[1] = b;
+        out[2] = c;
+    }
+}
+
+fn put_two(out: &mut [u64], a: u64, b: u64)
+    ensures { λ _. ⌜ now (out .exit) ≡ put (a ∷ b ∷ []) (now (out .entry)) ⌝ }
+{
+    if 2 <= out.len() {
+        out[0] = a;
+        out[1] = b;
+    }
+}
+
+fn put_place(out: &mut [i64], a: i64, b: i64, c: i64)
+    ensures { λ _. ⌜ now (out .exit) ≡ put (a ∷ b ∷ c ∷ []) (now (out .entry)) ⌝ }
+{
+    if 3 <= out.len() {
+        out[0] = a;
+        out[1] = b;
+        out[2] = c;
+    }
+}
+
+// out = kind, N, P
+#[no_mangle]
+pub extern "C" fn station_read(sheet: &[u8], out: &mut [u64]) -> u64
+    ensures answer { λ r. ⌜ r ≡ told (readSheet (now (sheet .entry))) .number ⌝ }
+    ensures out { λ r. ⌜ now (out .exit) ≡ writtenUnsigned (told (readSheet (now (sheet .entry)))) (now (out .entry)) ⌝ }
+{
+    match sheet::read(sheet) {
+        Reading::Course {
+            kind,
+            points,
+            ticks,
+        } => {
+            put_three(out, kind_number(kind), points as u64, ticks);
+            0
+        }
+        Reading::Refused(r) => number_of(r),
+    }
+}
+
+#[no_mangle]
+pub extern "C" fn station_lay_out(sheet: &[u8], list: &mut [i64]) -> u64
+    ensures answer { λ r. ⌜ r ≡ layOut (now (sheet .entry)) (length (now (list .entry))) .number ⌝ }
+    ensures list { λ r. ⌜ now (list .exit) ≡ laidOut (now (sheet .entry)) (now (list .entry)) ⌝ }
+{
+    match layout::lay_out(sheet, list) {
+        Outcome::Done => 0,
+        Outcome::Refused(r) => number_of(r),
+    }
+}
+
+// The place into the slice, or the refusal's number.
+fn tell_place(answer: Placed, out: &mut [i64]) -> u64
+    ensures answer { λ r. ⌜ r ≡ toldPlaced answer .number ⌝ }
+    ensures out { λ r. ⌜ now (out .exit) ≡ written (toldPlaced answer) (now (out .entry)) ⌝ }
+{
+    let outcome = answer.outcome;
+    let place = answer.place;
+    let at = place.at;
+    match outcome {
+        Outcome::Done => {
+            put_place(out, at[0], at[1], at[2]);
+            0
+        }
+        Outcome::Refused(r) => number_of(r),
+    }
+}
+
+// out = north, east, up
+#[no_mangle]
+pub extern "C" fn station_place_at_tick(
+    sheet: &[u8],
+    list: &[i64],
+    tick: u64,
+    out: &mut [i64],
+) -> u64
+    ensures answer { λ r. ⌜ r ≡ placeAtTick (now (sheet .entry)) (now (list .entry)) tick .number ⌝ }
+    ensures out { λ r. ⌜ now (out .exit) ≡ written (placeAtTick (now (sheet .entry)) (now (list .entry)) tick) (now (out .entry)) ⌝ }
+{
+    let answer = place::place_at_tick(sheet, list, tick);
+    tell_place(answer, out)
+}
+
+// out = north, east, up
+#[no_mangle]
+pub extern "C" fn station_place_of_runner(
+    sheet: &[u8],
+    list: &[i64],
+    leg: u64,
+    offset: u64,
+    out: &mut [i64],
+) -> u64
+    ensures answer { λ r. ⌜ r ≡ placeOfRunner (now (sheet .entry)) (now (list .entry)) (runner leg offset) .number ⌝ }
+    ensures out { λ r. ⌜ now (out .exit) ≡ written (placeOfRunner (now (sheet .entry)) (now (list .entry)) (runner leg offset)) (now (out .entry)) ⌝ }
+{
+    let answer = place::place_of_runner(sheet, list, Runner { leg, offset });
+    tell_place(answer, out)
+}
+
+// The runner into the slice, or the refusal's number.
+fn tell_runner(answer: RunnerAnswer, out: &mut [u64]) -> u64
+    ensures answer { λ r. ⌜ r ≡ toldRunner answer .number ⌝ }
+    ensures out { λ r. ⌜ now (out .exit) ≡ writtenUnsigned (toldRunner answer) (now (out .entry)) ⌝ }
+{
+    match answer {
+        RunnerAnswer::At(at) => {
+            put_two(out, at.leg, at.offset);
+            0
+        }
+        RunnerAnswer::Refused(r) => number_of(r),
+    }
+}
+
+// out = leg, offset
+#[no_mangle]
+pub extern "C" fn station_runner_at_tick(sheet: &[u8], tick: u64, out: &mut [u64]) -> u64
+    ensures answer { λ r. ⌜ r ≡ runnerAtTick (now (sheet .entry)) tick .number ⌝ }
+    ensures out { λ r. ⌜ now (out .exit) ≡ writtenUnsigned (runnerAtTick (now (sheet .entry)) tick) (now (out .entry)) ⌝ }
+{
+    tell_runner(runner::runner_at_tick(sheet, tick), out)
+}
+
+// lent = leg, offset, moved on in place
+#[no_mangle]
+pub extern "C" fn station_step(sheet: &[u8], lent: &mut [u64]) -> u64
+    ensures answer { λ r. ⌜ r ≡ steppedSlice (now (sheet .entry)) (now (lent .entry)) .number ⌝ }
+    ensures lent { λ r. ⌜ now (lent .exit) ≡ writtenUnsigned (steppedSlice (now (sheet .entry)) (now (lent .entry))) (now (lent .entry)) ⌝ }
+{
+    if lent.len() < 2 {
+        return match sheet::read(sheet) {
+            Reading::Course {
+                kind: _,
+                points: _,
+                ticks: _,
+            } => 11,
+            Reading::Refused(r) => number_of(r),
+        };
+    }
+    tell_runner(runner::step_at(sheet, lent[0], lent[1]), lent)
+}

@@ -1,0 +1,64 @@
+//! Compiles the C files with gcc (no outside crate) and links the station's library.
+//!
+//! STATION_LIBRARY names the library: a path to an archive (default: target/staticlib/libexports.a of the repository), or the
+//! word `base`, which puts c/base.c in its place under the names station_*.
+
+mod room {
+    include!("src/room.rs");
+}
+
+use std::env;
+use std::path::{Path, PathBuf};
+use std::process::Command;
+
+fn run(command: &mut Command) {
+    let status = command.status().unwrap_or_else(|error| panic!("{command:?}: {error}"));
+    assert!(status.success(), "{command:?}: {status}");
+}
+
+/// Compiles one C file and puts it into an archive of its own, which is linked.
+fn compile(here: &Path, out: &Path, source: &str, archive: &str, flags: &[&str]) {
+    let object = out.join(format!("{archive}.o"));
+    let library = out.join(format!("lib{archive}.a"));
+    run(Command::new("gcc")
+        .args(["-std=c11", "-O2", "-Wall", "-Wextra", "-Werror", "-c", "-I"])
+        .arg(here.join("../include"))
+        .args(flags)
+        .args([format!("-DROOM={}", room::ROOM), format!("-DNO_RUNNER={}", room::NO_RUNNER)])
+        .arg(here.join("c").join(source))
+        .arg("-o")
+        .arg(&object));
+    let _ = std::fs::remove_file(&library);
+    run(Command::new("ar").arg("rcs").arg(&library).arg(&object));
+    println!("cargo:rustc-link-search=native={}", out.display());
+    println!("cargo:rustc-link-lib=static={archive}");
+}
+
+fn main() {
+    let here = PathBuf::from(env::var("CARGO_MANIFEST_DIR").unwrap());
+    let out = PathBuf::from(env::var("OUT_DIR").unwrap());
+    println!("cargo:rerun-if-changed=build.rs");
+    println!("cargo:rerun-if-changed=c");
+    println!("cargo:rerun-if-changed=src/room.rs");
+    println!("cargo:rerun-if-changed=../include/station.h");
+    println!("cargo:rerun-if-env-changed=STATION_LIBRARY");
+
+    compile(&here, &out, "base.c", "base", &[]);
+    compile(&here, &out, "careful.c", "careful", &["-O3"]);
+    compile(&here, &out, "pcuspl.c", "pcuspl", &[]);
+
+    let default = here.join("../target/staticlib/libexports.a").display().to_string();
+    let library = env::var("STATION_LIBRARY").unwrap_or(default);
+    if library == "base" {
+        compile(&here, &out, "base.c", "standin", &["-DNAME(call)=station_##call"]);
+        println!("cargo:rustc-env=STATION_LIBRARY_NAME=the stand-in c/base.c");
+    } else {
+        let library = std::fs::canonicalize(&library)
+            .unwrap_or_else(|error| panic!("no library at {library} ({error}): run ./evidence, or set STATION_LIBRARY=base"));
+        let name = library.file_stem().unwrap().to_str().unwrap().trim_start_matches("lib").to_string();
+        println!("cargo:rerun-if-changed={}", library.display());
+        println!("cargo:rustc-link-search=native={}", library.parent().unwrap().display());
+        println!("cargo:rustc-link-lib=static={name}");
+        println!("cargo:rustc-env=STATION_LIBRARY_NAME={}", library.display());
+    }
+}

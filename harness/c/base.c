@@ -1,0 +1,185 @@
+/* Plain C of 01's calls, as one writes it from the paper: the baseline of the benchmark (gcc -O2) and the stand-in for the library
+ * while that is not there (then compiled a second time with the names station_*). Numbers are read from the sheet's bytes where they
+ * are needed; laying out ends early after a pass that changed nothing. */
+#ifndef NAME
+#define NAME(call) base_##call
+#endif
+#include "calls.h"
+
+static uint32_t be16(const uint8_t *p)
+{
+    return (uint32_t)p[0] << 8 | p[1];
+}
+
+static uint32_t be32(const uint8_t *p)
+{
+    return (uint32_t)p[0] << 24 | (uint32_t)p[1] << 16 | (uint32_t)p[2] << 8 | p[3];
+}
+
+static int64_t leg_at(const struct course *c, uint64_t i)
+{
+    return be16(c->legs + 2 * i);
+}
+
+static uint64_t leg_length(const struct course *c, uint64_t leg)
+{
+    return leg_at(c, leg);
+}
+
+static int64_t value_at(const struct course *c, uint64_t i, uint64_t axis)
+{
+    return (int32_t)be32(c->points + 12 * i + 4 * axis);
+}
+
+static int64_t slope_at(const struct course *c, uint64_t end, uint64_t axis)
+{
+    return (int32_t)be32(c->slopes + 12 * end + 4 * axis);
+}
+
+static uint64_t read_course(const uint8_t *s, size_t length, struct course *c)
+{
+    if (length < 8 || be32(s) != length)
+        return STATION_TORN;
+    if (s[4] != 1)
+        return STATION_EDITION;
+    if (s[5] > 2)
+        return STATION_ENDS;
+    c->kind = s[5];
+    c->n = be16(s + 6);
+    if (c->n < (c->kind == STATION_CLOSED ? 3 : 2) || c->n > 512)
+        return STATION_POINTS;
+    c->leg_count = c->kind == STATION_CLOSED ? c->n : c->n - 1;
+    if (length != 8 + 2 * c->leg_count + 12 * c->n + (c->kind == STATION_HELD ? 24 : 0))
+        return STATION_SIZE;
+    c->legs = s + 8;
+    c->points = c->legs + 2 * c->leg_count;
+    c->slopes = c->points + 12 * c->n;
+    c->ticks = 0;
+    for (uint64_t i = 0; i < c->leg_count; i++) {
+        int64_t leg = leg_at(c, i);
+        if (leg < 1 || leg > 256)
+            return STATION_LEG;
+        c->ticks += leg;
+    }
+    for (uint64_t i = 0; i < c->n; i++)
+        for (uint64_t axis = 0; axis < 3; axis++) {
+            int64_t value = value_at(c, i, axis);
+            if (value < -1000000 || value > 1000000)
+                return STATION_REACH;
+        }
+    if (c->kind == STATION_HELD)
+        for (uint64_t end = 0; end < 2; end++)
+            for (uint64_t axis = 0; axis < 3; axis++) {
+                int64_t slope = slope_at(c, end, axis);
+                if (slope < -5000 || slope > 5000)
+                    return STATION_SLOPE;
+            }
+    return STATION_DONE;
+}
+
+/* n / d for d > 0, to the nearest, a half going up. */
+static int64_t rounded(int64_t n, int64_t d)
+{
+    int64_t quotient = n / d;
+    int64_t remainder = n % d;
+    if (remainder < 0) {
+        quotient -= 1;
+        remainder += d;
+    }
+    if (remainder >= d - remainder)
+        quotient += 1;
+    return quotient;
+}
+
+static void lay_out_axis(const struct course *c, uint64_t axis, int64_t *z)
+{
+    uint64_t n = c->n;
+    int open = c->kind != STATION_CLOSED;
+    for (uint64_t i = 0; i < n; i++)
+        z[i] = 0;
+    for (int pass = 0; pass < 40; pass++) {
+        int changed = 0;
+        for (uint64_t i = 0; i < n; i++) {
+            int64_t numerator, middle;
+            if (open && (i == 0 || i == n - 1)) {
+                if (c->kind == STATION_FREE)
+                    continue;
+                if (i == 0) {
+                    int64_t h = leg_at(c, 0);
+                    int64_t d = value_at(c, 1, axis) - value_at(c, 0, axis);
+                    numerator = 65536 * (d - h * slope_at(c, 0, axis)) - h * h * z[1];
+                    middle = 2 * h * h;
+                } else {
+                    int64_t g = leg_at(c, n - 2);
+                    int64_t e = value_at(c, n - 1, axis) - value_at(c, n - 2, axis);
+                    numerator = 65536 * (g * slope_at(c, 1, axis) - e) - g * g * z[n - 2];
+                    middle = 2 * g * g;
+                }
+            } else {
+                uint64_t before = i == 0 ? n - 1 : i - 1;
+                uint64_t after = i == n - 1 ? 0 : i + 1;
+                int64_t g = leg_at(c, before);
+                int64_t h = leg_at(c, i);
+                int64_t d = value_at(c, after, axis) - value_at(c, i, axis);
+                int64_t e = value_at(c, i, axis) - value_at(c, before, axis);
+                numerator = 65536 * (g * d - h * e) - g * g * h * z[before] - g * h * h * z[after];
+                middle = 2 * g * h * (g + h);
+            }
+            int64_t new = rounded(numerator, middle);
+            if (new != z[i]) {
+                z[i] = new;
+                changed = 1;
+            }
+        }
+        if (!changed)
+            break;
+    }
+}
+
+static void lay_out_axes(const struct course *c, int64_t *list)
+{
+    for (uint64_t axis = 0; axis < 3; axis++)
+        lay_out_axis(c, axis, list + axis * c->n);
+}
+
+static uint64_t find_tick(const struct course *c, uint64_t tick, uint64_t *leg, uint64_t *offset)
+{
+    if (c->kind == STATION_CLOSED)
+        tick %= c->ticks;
+    else if (tick > c->ticks)
+        return STATION_PAST;
+    uint64_t start = 0;
+    for (uint64_t i = 0; i < c->leg_count; i++) {
+        uint64_t h = leg_at(c, i);
+        if (tick < start + h) {
+            *leg = i;
+            *offset = tick - start;
+            return STATION_DONE;
+        }
+        start += h;
+    }
+    *leg = c->leg_count - 1;
+    *offset = leg_at(c, c->leg_count - 1);
+    return STATION_DONE;
+}
+
+static uint64_t place(const struct course *c, const int64_t *list, uint64_t leg, uint64_t offset, int64_t *out, size_t out_length)
+{
+    const int64_t limit = (int64_t)1 << 37;
+    uint64_t end = leg + 1 == c->n ? 0 : leg + 1;
+    for (uint64_t axis = 0; axis < 3; axis++) {
+        int64_t z = list[axis * c->n + leg], y = list[axis * c->n + end];
+        if (z < -limit || z > limit || y < -limit || y > limit)
+            return STATION_BEND;
+    }
+    if (out_length < 3)
+        return ROOM;
+    int64_t h = leg_at(c, leg), u = offset;
+    for (uint64_t axis = 0; axis < 3; axis++) {
+        int64_t v = value_at(c, leg, axis), w = value_at(c, end, axis);
+        int64_t z = list[axis * c->n + leg], y = list[axis * c->n + end];
+        int64_t numerator = 65536 * (u * w + (h - u) * v) - u * (h - u) * ((h + u) * y + (2 * h - u) * z);
+        out[axis] = rounded(numerator, 65536 * h);
+    }
+    return STATION_DONE;
+}

@@ -1,0 +1,192 @@
+/* C of 01's calls written with care for speed, the algorithm unchanged: byte loads that merge into one, ranges asked by one unsigned
+ * comparison and gathered without a branch, a row's factors worked out once for the three axes, the number just set carried along as
+ * the next row's left neighbour, rounding without a branch. An axis at a time, each row with its one division; laying out ends
+ * early after a pass that changed nothing. Compiled with gcc -O3. */
+#define NAME(call) careful_##call
+#include "calls.h"
+
+static inline uint32_t be16(const uint8_t *p)
+{
+    return (uint32_t)p[0] << 8 | p[1];
+}
+
+static inline uint32_t be32(const uint8_t *p)
+{
+    return (uint32_t)p[0] << 24 | (uint32_t)p[1] << 16 | (uint32_t)p[2] << 8 | p[3];
+}
+
+static uint64_t leg_length(const struct course *c, uint64_t leg)
+{
+    return be16(c->legs + 2 * leg);
+}
+
+static inline int64_t value_at(const struct course *c, uint64_t i, uint64_t axis)
+{
+    return (int32_t)be32(c->points + 12 * i + 4 * axis);
+}
+
+static uint64_t read_course(const uint8_t *s, size_t length, struct course *c)
+{
+    if (length < 8 || be32(s) != length)
+        return STATION_TORN;
+    if (s[4] != 1)
+        return STATION_EDITION;
+    uint64_t kind = s[5], n = be16(s + 6);
+    if (kind > 2)
+        return STATION_ENDS;
+    int closed = kind == STATION_CLOSED, held = kind == STATION_HELD;
+    if (n < 2u + closed || n > 512)
+        return STATION_POINTS;
+    uint64_t leg_count = n - 1 + closed;
+    if (length != 8 + 2 * leg_count + 12 * n + 24 * held)
+        return STATION_SIZE;
+    const uint8_t *legs = s + 8, *points = legs + 2 * leg_count, *slopes = points + 12 * n;
+    uint32_t ticks = 0, bad = 0;
+    for (const uint8_t *p = legs; p < points; p += 2) {
+        uint32_t leg = be16(p);
+        ticks += leg;
+        bad |= leg - 1 > 255;
+    }
+    if (bad)
+        return STATION_LEG;
+    for (const uint8_t *p = points; p < slopes; p += 12) {
+        bad |= be32(p) + 1000000 > 2000000;
+        bad |= be32(p + 4) + 1000000 > 2000000;
+        bad |= be32(p + 8) + 1000000 > 2000000;
+    }
+    if (bad)
+        return STATION_REACH;
+    for (const uint8_t *p = slopes; p < s + length; p += 4)
+        bad |= be32(p) + 5000 > 10000;
+    if (bad)
+        return STATION_SLOPE;
+    *c = (struct course){kind, n, leg_count, ticks, legs, points, slopes};
+    return STATION_DONE;
+}
+
+/* n / d to the nearest, a half going up, for an even d > 0: half of d added first, then rounded down. */
+static inline int64_t rounded(int64_t n, int64_t d)
+{
+    int64_t t = n + d / 2;
+    return t / d + (t % d >> 63);
+}
+
+/* A row's factors, and 65,536 times its right side. */
+struct row {
+    int64_t before, after, middle, right;
+};
+
+static inline int64_t settled(const struct row *row, int64_t left, int64_t next)
+{
+    return rounded(row->right - row->after * next - row->before * left, row->middle);
+}
+
+/* The factors, which are the same on the three axes. */
+static void factors(const struct course *c, struct row *rows)
+{
+    uint64_t n = c->n;
+    int64_t g = leg_length(c, c->leg_count - 1);
+    for (uint64_t i = 0; i < c->leg_count; i++) {
+        int64_t h = leg_length(c, i);
+        rows[i].before = g * g * h;
+        rows[i].after = g * h * h;
+        rows[i].middle = 2 * g * h * (g + h);
+        g = h;
+    }
+    if (c->kind == STATION_HELD) {
+        int64_t h = leg_length(c, 0);
+        rows[0] = (struct row){0, h * h, 2 * h * h, 0};
+        rows[n - 1] = (struct row){g * g, 0, 2 * g * g, 0};
+    }
+}
+
+static void rights(const struct course *c, uint64_t axis, struct row *rows)
+{
+    uint64_t n = c->n;
+    int closed = c->kind == STATION_CLOSED;
+    int64_t first = value_at(c, 0, axis), last = value_at(c, n - 1, axis);
+    int64_t v = first, e = closed ? first - last : 0, g = closed ? leg_length(c, n - 1) : 0;
+    for (uint64_t i = 0; i < c->leg_count; i++) {
+        int64_t w = i == n - 1 ? first : value_at(c, i + 1, axis);
+        int64_t h = leg_length(c, i), d = w - v;
+        rows[i].right = 65536 * (g * d - h * e);
+        v = w;
+        e = d;
+        g = h;
+    }
+    if (c->kind == STATION_HELD) {
+        int64_t h = leg_length(c, 0), d = value_at(c, 1, axis) - first;
+        int64_t start = (int32_t)be32(c->slopes + 4 * axis), end = (int32_t)be32(c->slopes + 12 + 4 * axis);
+        rows[0].right = 65536 * (d - h * start);
+        rows[n - 1].right = 65536 * (g * end - e);
+    }
+}
+
+static void lay_out_axes(const struct course *c, int64_t *list)
+{
+    struct row rows[512];
+    uint64_t n = c->n, first = c->kind == STATION_FREE;
+    factors(c, rows);
+    for (uint64_t axis = 0; axis < 3; axis++) {
+        int64_t *z = list + axis * n;
+        rights(c, axis, rows);
+        for (uint64_t i = 0; i < n; i++)
+            z[i] = 0;
+        for (int pass = 0; pass < 40; pass++) {
+            /* a held end's missing neighbour has the factor 0, a free course's first inner row has a 0 on its left */
+            int64_t left = z[n - 1], changed = 0;
+            for (uint64_t i = first; i < n - 1; i++) {
+                left = settled(&rows[i], left, z[i + 1]);
+                changed |= left ^ z[i];
+                z[i] = left;
+            }
+            if (!first) {
+                left = settled(&rows[n - 1], left, z[0]);
+                changed |= left ^ z[n - 1];
+                z[n - 1] = left;
+            }
+            if (!changed)
+                break;
+        }
+    }
+}
+
+static uint64_t find_tick(const struct course *c, uint64_t tick, uint64_t *leg, uint64_t *offset)
+{
+    if (c->kind == STATION_CLOSED)
+        tick = tick < c->ticks ? tick : tick % c->ticks;
+    else if (tick > c->ticks)
+        return STATION_PAST;
+    /* an open course's last tick stays on the last leg */
+    const uint8_t *p = c->legs, *last = p + 2 * (c->leg_count - 1);
+    uint64_t h = be16(p);
+    while (tick >= h && p < last) {
+        tick -= h;
+        p += 2;
+        h = be16(p);
+    }
+    *leg = (uint64_t)(p - c->legs) / 2;
+    *offset = tick;
+    return STATION_DONE;
+}
+
+static uint64_t place(const struct course *c, const int64_t *list, uint64_t leg, uint64_t offset, int64_t *out, size_t out_length)
+{
+    const uint64_t limit = (uint64_t)1 << 37;
+    uint64_t n = c->n, end = leg + 1 == n ? 0 : leg + 1, bad = 0;
+    for (uint64_t axis = 0; axis < 3; axis++) {
+        bad |= (uint64_t)list[axis * n + leg] + limit > 2 * limit;
+        bad |= (uint64_t)list[axis * n + end] + limit > 2 * limit;
+    }
+    if (bad)
+        return STATION_BEND;
+    if (out_length < 3)
+        return ROOM;
+    int64_t h = leg_length(c, leg), u = offset, rest = h - u, slack = u * rest;
+    for (uint64_t axis = 0; axis < 3; axis++) {
+        int64_t v = value_at(c, leg, axis), w = value_at(c, end, axis);
+        int64_t z = list[axis * n + leg], y = list[axis * n + end];
+        out[axis] = rounded(65536 * (u * w + rest * v) - slack * ((h + u) * y + (h + rest) * z), 65536 * h);
+    }
+    return STATION_DONE;
+}

@@ -1,0 +1,209 @@
+//! Every call on random, boundary and damaged sheets.
+
+use crate::compare::{Comparison, Lent, ALL};
+use crate::Options;
+use harness::boundary::{Call, NAMES, TESTS};
+use harness::fence::Stand;
+use harness::model::{self, Course, WORDS};
+use harness::random::Random;
+use harness::sheets;
+
+pub fn run(options: &Options, comparison: &mut Comparison) {
+    let (mut accepted, mut of_kind) = (0, [0_u64; 3]);
+    for case in options.first..options.first + options.cases {
+        let mut random = Random::of_case(options.seed, case);
+        if !options.heap {
+            comparison.stand = if random.once_in(4) { Stand::AfterFence } else { Stand::BeforeFence };
+        }
+        // the C files of the benchmark on every fourth sheet
+        comparison.implementations = if case % 4 == 0 { &ALL } else { &ALL[..1] };
+        let sheet = match random.below(10) {
+            0..=3 => sheets::accepted(&mut random).bytes(),
+            4..=6 => sheets::at_edges(&mut random),
+            _ => sheets::damaged(&mut random),
+        };
+        let before = comparison.differences;
+        match model::read(&sheet) {
+            Ok(course) => {
+                accepted += 1;
+                of_kind[course.kind as usize] += 1;
+                on_accepted(&mut random, comparison, &sheet, &course);
+            }
+            Err(_) => on_refused(&mut random, comparison, &sheet),
+        }
+        comparison.sheets += 1;
+        if comparison.differences > before {
+            println!("  (case {case} of seed {})", options.seed);
+        }
+    }
+    println!(
+        "sheets: {} compared on every call, {accepted} of them accepted (free {}, held {}, closed {})",
+        options.cases, of_kind[0], of_kind[1], of_kind[2]
+    );
+    coverage(comparison, options.cases >= 10_000);
+}
+
+/// What is lent, filled with numbers that a call must replace or leave.
+fn lent(random: &mut Random, list: usize, words: usize, place: usize) -> Lent {
+    Lent {
+        list: (0..list).map(|_| random.word() as i64).collect(),
+        words: (0..words).map(|_| random.word()).collect(),
+        place: (0..place).map(|_| random.word() as i64).collect(),
+    }
+}
+
+/// The length of a lent out: mostly what is needed, or more, or less.
+fn room(random: &mut Random, needed: usize) -> usize {
+    match random.below(8) {
+        0 => random.below(needed),
+        1 => needed + random.below(4),
+        _ => needed,
+    }
+}
+
+fn try_call(random: &mut Random, comparison: &mut Comparison, call: Call, sheet: &[u8], before: &Lent) -> Lent {
+    let (_, after) = comparison.compare(&call, sheet, before);
+    if random.once_in(8) {
+        comparison.compare_wrapper(&call, sheet, before);
+    }
+    after
+}
+
+/// All six calls once, with anything lent.
+fn on_refused(random: &mut Random, comparison: &mut Comparison, sheet: &[u8]) {
+    let list = random.pick(&[0, 1, 6, 9, 40, 1536]);
+    let (words, place) = (random.below(5), random.below(5));
+    let before = lent(random, list, words, place);
+    let (tick, leg, offset) = (random.any_size(), random.any_size(), random.any_size());
+    for call in
+        [Call::Read, Call::LayOut, Call::PlaceAtTick { tick }, Call::PlaceOfRunner { leg, offset }, Call::RunnerAtTick { tick }, Call::Step]
+    {
+        try_call(random, comparison, call, sheet, &before);
+    }
+}
+
+fn on_accepted(random: &mut Random, comparison: &mut Comparison, sheet: &[u8], course: &Course) {
+    let words = room(random, 3);
+    let before = lent(random, 0, words, 0);
+    try_call(random, comparison, Call::Read, sheet, &before);
+
+    // a list that has the places, maybe some more; and one that has not
+    let need = 3 * course.n;
+    let list = need + random.pick(&[0, 0, 1, 7]);
+    let before = lent(random, list, 0, 0);
+    let own = try_call(random, comparison, Call::LayOut, sheet, &before).list;
+    if random.once_in(4) {
+        let list = short(random, need);
+        let before = lent(random, list, 0, 0);
+        try_call(random, comparison, Call::LayOut, sheet, &before);
+    }
+
+    for _ in 0..3 {
+        let list = bend_list(random, &own, need);
+        let place = room(random, 3);
+        let before = Lent { list, ..lent(random, 0, 0, place) };
+        let tick = tick(random, course);
+        try_call(random, comparison, Call::PlaceAtTick { tick }, sheet, &before);
+
+        let list = bend_list(random, &own, need);
+        let place = room(random, 3);
+        let before = Lent { list, ..lent(random, 0, 0, place) };
+        let [leg, offset] = runner(random, course);
+        try_call(random, comparison, Call::PlaceOfRunner { leg, offset }, sheet, &before);
+    }
+    for _ in 0..3 {
+        let words = room(random, 2);
+        let before = lent(random, 0, words, 0);
+        let tick = tick(random, course);
+        try_call(random, comparison, Call::RunnerAtTick { tick }, sheet, &before);
+
+        let mut words = runner(random, course).to_vec();
+        words.extend([random.word(), random.word()]);
+        words.truncate(room(random, 2).min(4));
+        let before = Lent { words, ..lent(random, 0, 0, 0) };
+        try_call(random, comparison, Call::Step, sheet, &before);
+    }
+}
+
+/// The length of a list that is too short.
+fn short(random: &mut Random, need: usize) -> usize {
+    let any = random.below(need);
+    random.pick(&[0, need / 3, need - 1, any])
+}
+
+/// The sheet's own bend numbers, or changed ones: one at the limit or beyond it, all random, or too few.
+fn bend_list(random: &mut Random, own: &[i64], need: usize) -> Vec<i64> {
+    const LIMIT: i64 = 1 << 37;
+    let mut list = own.to_vec();
+    match random.below(8) {
+        0 => list.truncate(short(random, need)),
+        1 | 2 => {
+            for _ in 0..random.pick(&[1, 2, need]) {
+                let near = LIMIT + random.between(-1, 1);
+                let far = random.word() as i64;
+                list[random.below(need)] = random.pick(&[near, -near, near, -near, i64::MIN, i64::MAX, far]);
+            }
+        }
+        3 => list.iter_mut().for_each(|bend| *bend = random.between(-LIMIT, LIMIT)),
+        4 => list.iter_mut().for_each(|bend| *bend = random.pick(&[-LIMIT, LIMIT])),
+        _ => {}
+    }
+    list
+}
+
+/// A tick on the course, at a waypoint or beside one, past the end, or far.
+fn tick(random: &mut Random, course: &Course) -> u64 {
+    let ticks = course.ticks() as u64;
+    let waypoint: i128 = course.legs[..random.below(course.legs.len() + 1)].iter().sum();
+    match random.below(10) {
+        0 => random.pick(&[0, 1, ticks - 1, ticks, ticks + 1, 2 * ticks]),
+        1 | 2 => (waypoint as u64).wrapping_add_signed(random.between(-1, 1)),
+        3 => random.any_size(),
+        4 => u64::MAX - random.below(3) as u64,
+        5 => (u64::MAX / ticks).wrapping_mul(ticks).wrapping_add_signed(random.between(-2, 2)),
+        _ => random.below(ticks as usize + 1) as u64,
+    }
+}
+
+/// A runner that fits, or is at the end of its leg, or is adrift.
+fn runner(random: &mut Random, course: &Course) -> [u64; 2] {
+    let l = course.legs.len();
+    let leg = match random.below(12) {
+        0 => return [random.any_size(), random.any_size()],
+        1 => return [l as u64 + random.below(2) as u64, random.below(2) as u64],
+        2..=4 => l - 1,
+        5 => 0,
+        _ => random.below(l),
+    };
+    let h = course.legs[leg] as u64;
+    let offset = match random.below(12) {
+        0 => random.any_size(),
+        1 => h + 1,
+        2 => u64::MAX,
+        3 | 4 => h,
+        5 | 6 => h - 1,
+        7 => 0,
+        _ => random.below(h as usize) as u64,
+    };
+    [leg as u64, offset]
+}
+
+/// Prints how often each call gave each number. In a run of some size each number that a call tests must have been reached; no other may.
+fn coverage(comparison: &mut Comparison, all: bool) {
+    println!("answers: {:>12} {}", "", NAMES.map(|name| format!("{name:>16}")).join(""));
+    for (number, word) in WORDS.iter().enumerate() {
+        let counts: String = comparison.answers.iter().map(|counts| format!("{:>16}", counts[number])).collect();
+        println!("  {number:>6} {:>14} {counts}", if number == 0 { "done" } else { word });
+    }
+    println!("  {} of these calls were done but lacked room for the results", comparison.without_room);
+    comparison.require(!all || comparison.without_room > 0, || "no call lacked room".to_string());
+    for (index, tests) in TESTS.iter().enumerate() {
+        for number in 0..16 {
+            let reached = comparison.answers[index][number as usize] > 0;
+            let tested = number == 0 || tests.contains(&number);
+            comparison.require(if all { reached == tested } else { tested || !reached }, || {
+                format!("{} answered {number}: {reached}; 01 has it test that: {tested}", NAMES[index])
+            });
+        }
+    }
+}

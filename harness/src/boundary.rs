@@ -1,0 +1,161 @@
+//! The C boundary: what include/station.h promises, said by the model, and the calls of the library and of the C files by name.
+
+use crate::model;
+use crate::room::{NO_RUNNER, ROOM};
+use crate::station::raw;
+
+/// One implementation of the six calls.
+pub struct Calls {
+    pub name: &'static str,
+    pub read: unsafe extern "C" fn(*const u8, usize, *mut u64, usize) -> u64,
+    pub lay_out: unsafe extern "C" fn(*const u8, usize, *mut i64, usize) -> u64,
+    pub place_at_tick: unsafe extern "C" fn(*const u8, usize, *const i64, usize, u64, *mut i64, usize) -> u64,
+    pub place_of_runner: unsafe extern "C" fn(*const u8, usize, *const i64, usize, u64, u64, *mut i64, usize) -> u64,
+    pub runner_at_tick: unsafe extern "C" fn(*const u8, usize, u64, *mut u64, usize) -> u64,
+    pub step: unsafe extern "C" fn(*const u8, usize, *mut u64, usize) -> u64,
+}
+
+macro_rules! c_calls {
+    ($($read:ident $lay_out:ident $place_at_tick:ident $place_of_runner:ident $runner_at_tick:ident $step:ident;)*) => {
+        extern "C" { $(
+            fn $read(sheet: *const u8, n: usize, out: *mut u64, m: usize) -> u64;
+            fn $lay_out(sheet: *const u8, n: usize, list: *mut i64, m: usize) -> u64;
+            fn $place_at_tick(sheet: *const u8, n: usize, list: *const i64, k: usize, tick: u64, out: *mut i64, m: usize) -> u64;
+            fn $place_of_runner(
+                sheet: *const u8, n: usize, list: *const i64, k: usize, leg: u64, offset: u64, out: *mut i64, m: usize,
+            ) -> u64;
+            fn $runner_at_tick(sheet: *const u8, n: usize, tick: u64, out: *mut u64, m: usize) -> u64;
+            fn $step(sheet: *const u8, n: usize, runner: *mut u64, m: usize) -> u64;
+        )* }
+    };
+}
+
+c_calls! {
+    base_read base_lay_out base_place_at_tick base_place_of_runner base_runner_at_tick base_step;
+    careful_read careful_lay_out careful_place_at_tick careful_place_of_runner careful_runner_at_tick careful_step;
+}
+
+/// The station's library.
+pub const LIBRARY: Calls = Calls {
+    name: "library",
+    read: raw::station_read,
+    lay_out: raw::station_lay_out,
+    place_at_tick: raw::station_place_at_tick,
+    place_of_runner: raw::station_place_of_runner,
+    runner_at_tick: raw::station_runner_at_tick,
+    step: raw::station_step,
+};
+
+/// c/base.c.
+pub const BASE: Calls = Calls {
+    name: "base.c",
+    read: base_read,
+    lay_out: base_lay_out,
+    place_at_tick: base_place_at_tick,
+    place_of_runner: base_place_of_runner,
+    runner_at_tick: base_runner_at_tick,
+    step: base_step,
+};
+
+/// c/careful.c.
+pub const CAREFUL: Calls = Calls {
+    name: "careful.c",
+    read: careful_read,
+    lay_out: careful_lay_out,
+    place_at_tick: careful_place_at_tick,
+    place_of_runner: careful_place_of_runner,
+    runner_at_tick: careful_runner_at_tick,
+    step: careful_step,
+};
+
+/// Any of the six calls with all that is lent to it.
+#[derive(Clone, Debug)]
+pub enum Call {
+    Read,
+    LayOut,
+    PlaceAtTick { tick: u64 },
+    PlaceOfRunner { leg: u64, offset: u64 },
+    RunnerAtTick { tick: u64 },
+    Step,
+}
+
+/// The names of the calls, by [`Call::index`].
+pub const NAMES: [&str; 6] = ["read", "lay_out", "place_at_tick", "place_of_runner", "runner_at_tick", "step"];
+
+/// 01: "Reading tests 1 to 8 ..", by [`Call::index`]; and the answers where what is lent is too short.
+pub const TESTS: [&[u64]; 6] = [
+    &[1, 2, 3, 4, 5, 6, 7, 8, ROOM],
+    &[1, 2, 3, 4, 5, 6, 7, 8, 9],
+    &[1, 2, 3, 4, 5, 6, 7, 8, 9, 10, 12, ROOM],
+    &[1, 2, 3, 4, 5, 6, 7, 8, 9, 11, 12, ROOM],
+    &[1, 2, 3, 4, 5, 6, 7, 8, 10, ROOM],
+    &[1, 2, 3, 4, 5, 6, 7, 8, 11, 13, NO_RUNNER],
+];
+
+impl Call {
+    pub fn index(&self) -> usize {
+        match self {
+            Call::Read => 0,
+            Call::LayOut => 1,
+            Call::PlaceAtTick { .. } => 2,
+            Call::PlaceOfRunner { .. } => 3,
+            Call::RunnerAtTick { .. } => 4,
+            Call::Step => 5,
+        }
+    }
+
+    /// Whether the slice lent for the results (or the runner) is too short.
+    pub fn lacks_room(&self, words: &[u64], place: &[i64]) -> bool {
+        match self {
+            Call::Read => words.len() < 3,
+            Call::LayOut => false,
+            Call::PlaceAtTick { .. } | Call::PlaceOfRunner { .. } => place.len() < 3,
+            Call::RunnerAtTick { .. } | Call::Step => words.len() < 2,
+        }
+    }
+
+    /// What the model says: the answer, and what `list` and `words` (the out of numbers without sign, or the runner) and `place` hold
+    /// after the call. Refused calls change nothing.
+    pub fn by_model(&self, sheet: &[u8], list: &mut [i64], words: &mut [u64], place: &mut [i64]) -> u64 {
+        let answer = match *self {
+            Call::Read => model::read(sheet).and_then(|course| put(words, &[course.kind as u64, course.n as u64, course.ticks() as u64])),
+            Call::LayOut => model::lay_out(sheet, list),
+            Call::PlaceAtTick { tick } => model::place_at_tick(sheet, list, tick).and_then(|found| put(place, &found)),
+            Call::PlaceOfRunner { leg, offset } => model::place_of_runner(sheet, list, leg, offset).and_then(|found| put(place, &found)),
+            Call::RunnerAtTick { tick } => model::runner_at_tick(sheet, tick).and_then(|(leg, offset)| put(words, &[leg, offset])),
+            // a runner of fewer than two numbers is none: only the sheet is tested
+            Call::Step => match *words {
+                [leg, offset, ..] => model::stepped(sheet, leg, offset).and_then(|(leg, offset)| put(words, &[leg, offset])),
+                _ => model::read(sheet).and(Err(NO_RUNNER)),
+            },
+        };
+        answer.err().unwrap_or(0)
+    }
+
+    /// The same by one of the implementations.
+    pub fn by(&self, calls: &Calls, sheet: &[u8], list: &mut [i64], words: &mut [u64], place: &mut [i64]) -> u64 {
+        let (s, n) = (sheet.as_ptr(), sheet.len());
+        // SAFETY: pointers and lengths of live slices that do not overlap.
+        unsafe {
+            match *self {
+                Call::Read => (calls.read)(s, n, words.as_mut_ptr(), words.len()),
+                Call::LayOut => (calls.lay_out)(s, n, list.as_mut_ptr(), list.len()),
+                Call::PlaceAtTick { tick } => (calls.place_at_tick)(s, n, list.as_ptr(), list.len(), tick, place.as_mut_ptr(), place.len()),
+                Call::PlaceOfRunner { leg, offset } => {
+                    (calls.place_of_runner)(s, n, list.as_ptr(), list.len(), leg, offset, place.as_mut_ptr(), place.len())
+                }
+                Call::RunnerAtTick { tick } => (calls.runner_at_tick)(s, n, tick, words.as_mut_ptr(), words.len()),
+                Call::Step => (calls.step)(s, n, words.as_mut_ptr(), words.len()),
+            }
+        }
+    }
+}
+
+/// Results are written where the lent slice has room; what it holds beyond them stays.
+fn put<T: Copy>(out: &mut [T], results: &[T]) -> Result<(), u64> {
+    if out.len() < results.len() {
+        return Err(ROOM);
+    }
+    out[..results.len()].copy_from_slice(results);
+    Ok(())
+}

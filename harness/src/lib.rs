@@ -1,0 +1,16 @@
+//! Evidence from outside the proofs (see the repository's README): `evidence` compares the station's library with an independent model
+//! of 01, `bench` times it against C. The library is linked by build.rs; no outside crates.
+
+pub mod boundary;
+pub mod elimination;
+pub mod exact;
+pub mod fence;
+pub mod model;
+pub mod pcuspl;
+pub mod random;
+pub mod room;
+pub mod sheets;
+pub mod station;
+
+/// Which library this program was linked with.
+pub const LIBRARY: &str = env!("STATION_LIBRARY_NAME");
