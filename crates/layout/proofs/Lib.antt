@@ -8,5 +8,5 @@ mod Passes
 mod Sweep
 mod Fill
 mod Parts
-mod Outcomes
+pub mod Outcomes
 pub mod Near

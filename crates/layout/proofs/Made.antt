@@ -38,7 +38,7 @@ module _ {y x : ℤ} {B : ℕ} (m : Made y x B) where
 pub given : {y x : ℤ} {B : ℕ} → y ≡ x → natAbs x ≤ B → T (ltb B (2 ^ 63)) → Made y x B
 given {B = B} e h t = record { same = e; size = h; room = ltb→lt B (2 ^ 63) t }
 
--- a call's result, handed on: `is` says what it is, `ok` of the call that it fits
+-- a call's result, read back: it fits, as the call's `ok` says
 pub passed : {y x : ℤ} → y ≡ x → mag y < 2 ^ 63 → read y ≡ x
 passed {y} e ok = back refl (record { sfits = ok }) ∙ e
 

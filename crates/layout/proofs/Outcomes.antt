@@ -8,14 +8,15 @@ use borrow.Author.Tests.{lt-ltb, le-ltb, ne-eqb}
 use lib.Dec.{eqb}
 use lib.IntN.{ℤ}
 use lib.ListN.{length, drop}
-use Rattle.ends.specs.declared.EndKind.{EndKind}
 use Rattle.sheet.specs.Answers.{Told, numberOf, refused}
-use Rattle.sheet.specs.Fields.{points}
+use Rattle.sheet.specs.Fields.{kind, points, ticks}
 use Rattle.sheet.specs.Reading.{readSheet}
+use Rattle.sheet.specs.Theorems.{Accepted}
 use Rattle.sheet.specs.declared.Refusal.{Refusal}
 use Rattle.sheet.specs.declared.Refusal.the-variants.{Shelf}
 use Rattle.sheet.specs.declared.Reading.{Reading}
 use Rattle.sheet.specs.declared.Reading.the-variants.{Course, Refused}
+use Rattle.sheet.proofs.Laws.{accepted-read}
 use Rattle.sheet.proofs.Told.{number-positive}
 use Rattle.answers.specs.Answers.{done, passOn, guard}
 use Rattle.layout.specs.Layout.{allBends, short, layOut, laidOut}
@@ -29,12 +30,15 @@ module _ (s : List ℕ) (room : ℕ) where
   pub refused-answer : (r : Refusal) → readSheet s ≡ Refused r → layOut s room ≡ refused r
   refused-answer r e = read-decides (Refused r) e
 
-  module _ (k : EndKind) (n p : ℕ) (e : readSheet s ≡ Course k n p) where
+  module _ (a : Accepted s) where
+    accepted-answer : layOut s room ≡ guard (short s room) Shelf done
+    accepted-answer = read-decides (Course (kind s) (points s) (ticks s)) (accepted-read s a)
+
     pub short-answer : room < 3 * points s → layOut s room ≡ refused Shelf
-    short-answer h = read-decides (Course k n p) e ∙ ap (λ (b : Bool). guard b Shelf done) (lt-ltb room (3 * points s) h)
+    short-answer h = accepted-answer ∙ ap (λ (b : Bool). guard b Shelf done) (lt-ltb room (3 * points s) h)
 
     pub done-answer : 3 * points s ≤ room → layOut s room ≡ done
-    done-answer h = read-decides (Course k n p) e ∙ ap (λ (b : Bool). guard b Shelf done) (le-ltb room (3 * points s) h)
+    done-answer h = accepted-answer ∙ ap (λ (b : Bool). guard b Shelf done) (le-ltb room (3 * points s) h)
 
 module _ (s : List ℕ) (list : List ℤ) where
   laid : Told → List ℤ

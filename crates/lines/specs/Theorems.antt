@@ -1,7 +1,6 @@
 -- Lines of 01's whole output of course A, and the longest line, spelled by the definition. Proved in lines/proofs/Worked.antt.
 use mathlib.Core.Path.{_≡_}
 use mathlib.Core.List.{[], _∷_}
-use Prim.Native.Nat.{_-_, _^_}
 use lib.IntN.{pos, negsuc}
 use Rattle.lines.specs.Lines.{line}
 

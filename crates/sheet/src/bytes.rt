@@ -25,7 +25,7 @@ pub fn read32(s: &[u8], at: usize) -> u64
     requires { ⌜ at + 4 ≤ length (now s) ⌝ }
     ensures { λ r. ⌜ (r ≡ be32 (now (s .entry)) at) × (r < 4294967296) ⌝ }
 {
-    read16(s, at) * 65536 + read16(s, at + 2)
+    wide(s[at]) * 16777216 + wide(s[at + 1]) * 65536 + wide(s[at + 2]) * 256 + wide(s[at + 3])
 }
 
 // "signed, 32 bits, two's complement": the sign by arithmetic, without a test.

@@ -1,15 +1,15 @@
 // The course sheet and its reader (01, The sheet and Named numbers): any slice of bytes is read, or refused with the lowest number that applies.
-mod answers;
 mod bytes;
 mod limits;
 mod reader;
+mod refusals;
 
-pub use answers::number_of;
 pub use bytes::read_signed;
 pub use bytes::read16;
 pub use reader::kind_of;
 pub use reader::read;
 pub use reader::sheet_length;
+pub use refusals::number_of;
 
 pub enum Refusal {
     Torn,

@@ -18,7 +18,7 @@ use Rattle.sheet.specs.Theorems.{Accepted}
 use Rattle.sheet.specs.declared.Refusal.the-variants.{Shelf, Past, Adrift, Bend}
 use Rattle.sheet.proofs.ByKind.{legs-at-most}
 use Rattle.sheet.proofs.Laws.{accepted-read}
-use Rattle.answers.specs.Answers.{done, passOn, guard}
+use Rattle.answers.specs.Answers.{passOn, guard}
 use Rattle.systems.specs.Passes.{at, sweep}
 use Rattle.spline.specs.Spline as spline
 use Rattle.spline.specs.Spline.{Curve, Exact, next, valueAt}
@@ -29,15 +29,16 @@ use Rattle.spline.proofs.OneCurve.{one-curve}
 use Rattle.spline.proofs.Bends.{bends-bounded, position-near}
 use Rattle.spline.proofs.Waypoints.{next-lt}
 use Rattle.layout.specs.Course.{course}
-use Rattle.layout.specs.Layout.{short, layOut}
+use Rattle.layout.specs.Layout.{short}
 use Rattle.layout.proofs.Near.{course-in-bounds}
+use Rattle.layout.proofs.Outcomes.{done-answer, done-list}
 use Rattle.runner.specs.Ticks.{runner, isOpen, past, spotAt}
 use Rattle.runner.specs.Steps.{adrift}
 use Rattle.runner.proofs.Standing.{Standing, on-leg, at-end, standing, tick-stands}
 use Rattle.runner.specs.declared.Runner.{Runner}
 use Rattle.place.specs.Places.{bendOf, bendOutside, endOf, placed, placeOn, placeAtTick, placeOfRunner}
 use Rattle.station.specs.Claim.{Own, Answers, Answered, Claim}
-use Rattle.station.proofs.Own.{laid-when-done, own-long, own-bend}
+use Rattle.station.proofs.Own.{own-long, own-bend}
 
 -- a number of at most a in size is not outside -a to a
 within-limits : (a : ℕ) (z : ℤ) → natAbs z ≤ suc a → outside (suc a) (suc a) z ≡ false
@@ -56,10 +57,6 @@ module _ (s : List ℕ) (accepted : Accepted s) where
   -- past the reader's tests and number 9
   past-shelf : (list : List ℤ) → 3 * points s ≤ length list → (rest : Told) → passOn (readSheet s) (guard (short s (length list)) Shelf rest) ≡ rest
   past-shelf list long rest = rw (accepted-read s accepted, le-ltb (length list) (3 * points s) long)
-
-  laying : (list : List ℤ) → 3 * points s ≤ length list → layOut s (length list) ≡ done
-  unfolding layOut
-  laying list long = past-shelf list long done
 
   -- ---- with the station's own bend numbers, at a leg i of the course
   module _ (list : List ℤ) (own : Own s list) where
@@ -131,7 +128,7 @@ pub claim : Claim
 claim s accepted = record {
   exists = λ axis h. spline-exists (course s axis) (course-in-bounds s accepted axis h);
   same = λ axis h. one-curve (course s axis) (course-in-bounds s accepted axis h);
-  laying = λ list long. (laying s accepted list long, laid-when-done s list (laying s accepted list long));
+  laying = λ list long. let e = done-answer s (length list) accepted long in (e, done-list s list e);
   by-tick = λ list own t h. let (now, fits) = answerable s accepted (kind s) refl t h in by-tick s accepted list own t now fits;
   by-runner = by-runner s accepted;
 }

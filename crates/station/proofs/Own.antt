@@ -1,23 +1,20 @@
 -- The station's own bend numbers, read out of a lent list: at axis × N + i stands the number that the passes leave at the waypoint i of that axis.
 use mathlib.Core.Path.{_≡_, refl, sym, _∙_, ap}
-use mathlib.Core.Bool.{cond}
 use mathlib.Core.List.{List, _++_}
 use Prim.Native.Nat.{ℕ, zero, suc, _+_, _*_, _≤_, _<_}
 use native.Mathlib.Omega.{arith}
 use native.Mathlib.Nat.{mul-le-mul-right, le-pred-of-lt}
-use lib.Dec.{eqb}
 use lib.IntN.{ℤ, pos}
 use lib.ListN.{length, take, drop, replicate, length-append, length-take, length-replicate, List·getD-append}
 use lib.Seq.{getD-take, getD-append-add, take-at}
-use Rattle.sheet.specs.Answers.{Told}
 use Rattle.sheet.specs.Fields.{points}
-use Rattle.answers.specs.Answers.{done}
 use Rattle.systems.specs.Passes.{at}
 use Rattle.systems.proofs.Lists.{length-passes}
 use Rattle.spline.specs.Spline.{Course, rows}
 use Rattle.spline.specs.Theorems.{bends}
 use Rattle.layout.specs.Course.{course}
-use Rattle.layout.specs.Layout.{allBends, layOut, laidOut}
+use Rattle.layout.specs.Layout.{allBends}
+use Rattle.layout.proofs.Outcomes.{done-list}
 use Rattle.place.specs.Places.{bendOf}
 use Rattle.station.specs.Claim.{Own}
 
@@ -65,15 +62,10 @@ module _ (s : List ℕ) where
   unfolding allBends
   length-allBends = length-three (points s) (λ axis. bends (course s axis)) part-length
 
-  -- a laying out that is done leaves the bend numbers, then what the list held
-  pub laid-when-done : (list : List ℤ) → layOut s (length list) ≡ done → laidOut s list ≡ allBends s ++ drop (3 * points s) list
-  unfolding laidOut
-  laid-when-done list e = ap (λ (t : Told). cond (eqb (t .number) 0) (allBends s ++ drop (3 * points s) list) list) e
-
   own-first : (list : List ℤ) → Own s list → take (3 * points s) list ≡ allBends s
   own-first list o =
       o .holds
-      ∙ ap (take (3 * points s)) (laid-when-done (o .lent) (o .not-refused))
+      ∙ ap (take (3 * points s)) (done-list s (o .lent) (o .not-refused))
       ∙ take-at (allBends s) (drop (3 * points s) (o .lent)) (3 * points s) length-allBends
 
   -- so the list is long enough ..

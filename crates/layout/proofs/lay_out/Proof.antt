@@ -8,11 +8,13 @@ use lib.IntN.{ℤ}
 use lib.ListN.{length, drop}
 use Rattle.ends.specs.declared.EndKind.{EndKind}
 use Rattle.sheet.specs.Answers.{refused}
+use Rattle.sheet.specs.Fields.{kind, points}
 use Rattle.sheet.specs.Reading.{readSheet}
+use Rattle.sheet.specs.Theorems.{Accepted}
 use Rattle.sheet.specs.declared.Refusal.the-variants.{Shelf}
-use Rattle.sheet.specs.declared.Reading.the-variants.{Course, Refused}
+use Rattle.sheet.specs.declared.Reading.the-variants.{Refused}
 use Rattle.sheet.proofs.Told.{told-injective}
-use Rattle.sheet.proofs.Laws.{read-accepted, accepted-bounds}
+use Rattle.sheet.proofs.Laws.{course-read, accepted-bounds}
 use Rattle.answers.specs.Answers.{refusalOf}
 use Rattle.layout.specs.Inside.{OnSheet}
 use Rattle.layout.specs.Layout.{allBends}
@@ -38,16 +40,14 @@ module _ (r : tie.After-reading) where
   abbrev n : ℕ
   n = r .reading .given .0 .1 .0
 
-  abbrev p : ℕ
-  p = r .reading .given .0 .1 .1 .0
-
-  course : readSheet S ≡ Course k n p
-  course = sym (told-injective (r .before .before .read .result) (readSheet S) (r .before .before .read .ensures)) ∙ r .reading .given .1
+  accepted : Accepted S × (k ≡ kind S) × (n ≡ points S)
+  accepted =
+      let a = r .before .before .read in
+      let (accepted, sameKind, samePoints, sameTicks) = course-read S (a .result) k n (r .reading .given .0 .1 .1 .0) (a .ensures) (r .reading .given .1) in
+      (accepted, sameKind, samePoints)
 
   on-sheet : (axis : ℕ) → axis < 3 → OnSheet S k n axis
-  on-sheet axis h =
-      let (accepted, sameKind, samePoints, sameTicks) = read-accepted S k n p course in
-      record { bounds = accepted-bounds S accepted; sameKind = sameKind; samePoints = samePoints; axisFits = h }
+  on-sheet axis h = record { bounds = accepted-bounds S (accepted .0); sameKind = accepted .1; samePoints = accepted .2; axisFits = h }
 
 read-requires : tie.Need-read-requires
 read-requires c κs = search needs
@@ -75,7 +75,7 @@ mul-if1 c = record { fits = omega (arith, few-points (on-sheet (c .before) 0 (om
 returns-2 : tie.Need-returns-2
 returns-2 c =
     let r = c .before .before in
-    let f = short-answer (S r) (length (L r)) (k r) (n r) (p r) (course r) (omega (arith, c .if1 .taken, on-sheet r 0 (omega arith) .samePoints)) in
+    let f = short-answer (S r) (length (L r)) (accepted r .0) (omega (arith, c .if1 .taken, accepted r .2)) in
     (sym f, sym (refused-list (S r) (L r) Shelf f))
 
 lay-axes-requires : tie.Need-lay-axes-requires
@@ -87,9 +87,8 @@ same-length c = search needs
 returns-3 : tie.Need-returns-3
 returns-3 c =
     let a = c .before in let e = a .before .before in let r = e .before .before in
-    let q = on-sheet r 0 (omega arith) .samePoints in
-    let f = done-answer (S r) (length (L r)) (k r) (n r) (p r) (course r) (omega (arith, e .if1 .left)) in
-    (sym f, a .lay-axes .ensures ∙ ap (λ (m : ℕ). allBends (S r) ++ drop (3 * m) (L r)) q ∙ sym (done-list (S r) (L r) f))
+    let f = done-answer (S r) (length (L r)) (accepted r .0) (omega (arith, e .if1 .left, accepted r .2)) in
+    (sym f, a .lay-axes .ensures ∙ ap (λ (m : ℕ). allBends (S r) ++ drop (3 * m) (L r)) (accepted r .2) ∙ sym (done-list (S r) (L r) f))
 
 pub lay-out-spec : {M : Type 1} → statement M
 lay-out-spec =
