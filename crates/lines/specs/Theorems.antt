@@ -1,4 +1,4 @@
--- Lines of 01's whole output of course A, and the longest line, spelled by the definition. Proved in lines/proofs/Worked.antt.
+-- Two lines as the definition spells them: one of 01's whole output of course A, and one with zeros and minus signs. Proved in lines/proofs/Worked.antt.
 use mathlib.Core.Path.{_≡_}
 use mathlib.Core.List.{[], _∷_}
 use lib.IntN.{pos, negsuc}

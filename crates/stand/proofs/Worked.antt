@@ -1,0 +1,19 @@
+-- Course A's lines come out as in 01, by computing the definitions.
+use mathlib.Core.Path.{refl}
+use Rattle.rounding.specs.Rounded.{floor, rounded}
+use Rattle.systems.specs.Passes.{target, renewed, step, sweep, pass, passes}
+use Rattle.sheet.specs.Bytes.{be16, be32, signed32, anyBelow, sumBelow}
+use Rattle.sheet.specs.Reading.{readBy}
+use Rattle.spline.specs.Spline.{next, prev, stepAfter, stepBefore, innerRow, freeRow, heldStartRow, heldEndRow, along, rowOf, rowsBy}
+use Rattle.spline.specs.Position.{numerator, position}
+use Rattle.layout.specs.Course.{course}
+use Rattle.layout.specs.Layout.{allBends, layOut, laidOut}
+use Rattle.runner.specs.Ticks.{walk, spotAt}
+use Rattle.place.specs.Places.{bendOutside, placeOn, placeAtTick}
+use Rattle.lines.specs.Lines.{decimal, signed, line}
+use Rattle.stand.specs.Output.{lineAt, linesFrom}
+use Rattle.stand.specs.Theorems.{CourseA}
+
+pub course-a : CourseA
+unfolding floor rounded target renewed step sweep pass passes be16 be32 signed32 anyBelow sumBelow readBy next prev stepAfter stepBefore innerRow freeRow heldStartRow heldEndRow along rowOf rowsBy numerator position course allBends layOut laidOut walk spotAt bendOutside placeOn placeAtTick decimal signed line lineAt linesFrom
+course-a = refl
