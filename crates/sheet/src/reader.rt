@@ -7,7 +7,7 @@ ghost use Rattle.sheet.specs.Answers.{told};
 ghost use Rattle.sheet.specs.Bytes.{be16, be32, signed32, anyBelow, sumBelow};
 ghost use Rattle.sheet.specs.Fields.{kindField, kindOf, leg, waypointsFrom, waypoint, slopesFrom, slopeBytes, sheetLength};
 ghost use Rattle.sheet.specs.Reading.{legOutside, reachOutside, slopeOutside, slopesOutside, mostPoints, lowest, readSheet};
-ghost use Rattle.sheet.specs.declared.Refusal.the-variants.{Leg, Reach, Slope};
+ghost use Rattle.sheet.specs.declared.Refusal.the-variants.{Edition, Ends, Points, Size, Leg, Reach, Slope};
 use crate::Reading;
 use crate::Refusal;
 use crate::bytes::read16;
@@ -162,17 +162,12 @@ fn read_body(s: &[u8], kind: EndKind, n: usize) -> Reading
     }
 }
 
-// 1 to 5, then the body: any slice of bytes is read or refused.
-pub fn read(s: &[u8]) -> Reading
-    ensures { λ r. ⌜ told r ≡ told (readSheet (now (s .entry))) ⌝ }
+// 2 to 5, of a sheet that is not torn, then the body. (Apart from 1: behind seven tests in one function the compiler takes the body for unlikely, and the
+// answer goes through memory twice, which is half of a small sheet's time.)
+fn read_fields(s: &[u8]) -> Reading
+    requires { ⌜ 8 ≤ length (now s) ⌝ }
+    ensures { λ r. ⌜ r ≡ lowest mostPoints (now (s .entry)) (Edition ∷ Ends ∷ Points ∷ Size ∷ Leg ∷ Reach ∷ Slope ∷ []) ⌝ }
 {
-    let length = s.len();
-    if length < 8 {
-        return Reading::Refused(Refusal::Torn);
-    }
-    if read32(s, 0) != length as u64 {
-        return Reading::Refused(Refusal::Torn);
-    }
     if s[4] != 1 {
         return Reading::Refused(Refusal::Edition);
     }
@@ -188,8 +183,22 @@ pub fn read(s: &[u8]) -> Reading
     if MOST_POINTS < n {
         return Reading::Refused(Refusal::Points);
     }
-    if length != sheet_length(kind, n) {
+    if s.len() != sheet_length(kind, n) {
         return Reading::Refused(Refusal::Size);
     }
     read_body(s, kind, n)
+}
+
+// 1, then the fields: any slice of bytes is read or refused.
+pub fn read(s: &[u8]) -> Reading
+    ensures { λ r. ⌜ told r ≡ told (readSheet (now (s .entry))) ⌝ }
+{
+    let length = s.len();
+    if length < 8 {
+        return Reading::Refused(Refusal::Torn);
+    }
+    if read32(s, 0) != length as u64 {
+        return Reading::Refused(Refusal::Torn);
+    }
+    read_fields(s)
 }
