@@ -3,11 +3,10 @@ ghost use mathlib.Core.Path.{_≡_};
 ghost use mathlib.Core.Bool.{false};
 ghost use Prim.Native.Nat.{_+_, _*_, _≤_, _<_};
 ghost use lib.ListN.{length};
-ghost use Rattle.sheet.specs.Fields.{legs as legsOf, waypoint};
+ghost use Rattle.sheet.specs.Fields.{legs as legsOf, leg, waypoint};
 ghost use Rattle.place.specs.Asked.{Fitting};
-ghost use Rattle.place.specs.Places.{bendOutside, placeOn};
+ghost use Rattle.place.specs.Places.{bendOutside, endOf, placeOn};
 use crate::bends::bend_of;
-use crate::bends::end_of;
 use crate::position::position;
 use runner::Runner;
 
@@ -19,16 +18,24 @@ fn waypoint_on(s: &[u8], legs: usize, axis: usize, i: usize) -> i64
     sheet::read_signed(s, 8 + 2 * legs + 12 * i + 4 * axis)
 }
 
-// The place's number on an axis, for a runner to which neither 11 nor 12 applies.
-pub fn place_on(s: &[u8], list: &[i64], points: usize, legs: usize, at: Runner, axis: usize) -> i64
+// The place's number on an axis, for a runner to which neither 11 nor 12 applies; `end` and `h` are the end of its leg and the leg's length, alike on all axes.
+pub fn place_on(
+    s: &[u8],
+    list: &[i64],
+    points: usize,
+    legs: usize,
+    at: Runner,
+    end: usize,
+    h: u64,
+    axis: usize,
+) -> i64
     requires { ⌜ Fitting (now s) (now list) points legs at ⌝ }
     requires { ⌜ bendOutside (now s) (now list) (at .leg) ≡ false ⌝ }
+    requires { ⌜ (end ≡ endOf (now s) (at .leg)) × (end < points) × (h ≡ leg (now s) (at .leg)) ⌝ }
     requires { ⌜ axis < 3 ⌝ }
     ensures { λ r. ⌜ r ≡ placeOn (now (s .entry)) (now (list .entry)) at axis ⌝ }
 {
     let start = at.leg as usize;
-    let end = end_of(points, start);
-    let h = runner::leg_length(s, start);
     let v = waypoint_on(s, legs, axis, start);
     let w = waypoint_on(s, legs, axis, end);
     let z = bend_of(list, points, axis, start);

@@ -45,12 +45,14 @@ fn place_at(s: &[u8], list: &[i64], points: usize, legs: usize, at: Runner) -> P
     ensures place { λ r. ⌜ r .place .at ≡ placeHeld (bendOrPlace (now (s .entry)) (now (list .entry)) at) ⌝ }
 {
     let start = at.leg as usize;
-    if bend_outside(list, points, start, end_of(points, start)) {
+    let end = end_of(points, start);
+    if bend_outside(list, points, start, end) {
         return refused(Refusal::Bend);
     }
-    let north = place_on(s, list, points, legs, at, 0);
-    let east = place_on(s, list, points, legs, at, 1);
-    let up = place_on(s, list, points, legs, at, 2);
+    let h = runner::leg_length(s, start);
+    let north = place_on(s, list, points, legs, at, end, h, 0);
+    let east = place_on(s, list, points, legs, at, end, h, 1);
+    let up = place_on(s, list, points, legs, at, end, h, 2);
     let place = Place {
         at: [north, east, up],
     };

@@ -2,7 +2,7 @@
 use mathlib.Core.Path.{_≡_, sym, _∙_}
 use mathlib.Core.Bool.{false, _||_}
 use mathlib.Core.List.{List, [], _∷_}
-use Prim.Native.Nat.{ℕ, _+_, _*_}
+use Prim.Native.Nat.{ℕ, _+_, _*_, _<_}
 use native.Mathlib.Omega.{arith}
 use borrow.Author.Needs.{needs}
 use lib.IntN.{ℤ}
@@ -10,10 +10,10 @@ use Rattle.layout.proofs.Made.{passed}
 use Rattle.sheet.specs.Bytes.{anyBelow}
 use Rattle.systems.specs.Passes.{at}
 use Rattle.runner.specs.declared.Runner.{Runner}
-use Rattle.place.specs.Places.{beyond, bendOutside}
+use Rattle.place.specs.Places.{endOf, beyond, bendOutside}
 use Rattle.place.specs.Asked.{Fitting}
 use Rattle.place.proofs.Answer.{answers-with}
-use Rattle.place.proofs.Fitting.{start-fits, end-is, list-room}
+use Rattle.place.proofs.Fitting.{start-fits, end-is, list-room, leg-room}
 use Rattle.place.proofs.place_at.Statement.{statement}
 use Rattle.place.proofs.place_at.Tie as tie
 
@@ -55,22 +55,42 @@ returns c =
 within : (c : tie.Else1) → let s = c .before .before .before .before in bendOutside (sheet s) (list s) (runner s .leg) ≡ false
 within c = sym (bend-said (c .before)) ∙ c .if1 .left
 
+leg-length-requires : tie.Need-leg-length-requires
+leg-length-requires c κs = leg-room (fitting (c .before .before .before .before))
+
+-- what each axis asks
+module _ (c : tie.After-leg-length) where
+  abbrev e : tie.Else1
+  e = c .before
+
+  abbrev s : tie.Start
+  s = e .before .before .before .before
+
+  abbrev end : ℕ
+  end = e .before .before .end-of .result
+
+  end-said : end ≡ endOf (sheet s) (runner s .leg)
+  end-said = e .before .before .end-of .ensures .0 ∙ end-is (fitting s)
+
+  end-fits : end < s .args .points
+  end-fits = e .before .before .end-of .ensures .1
+
 place-on-requires : tie.Need-place-on-requires
-place-on-requires c κs = (fitting (c .before .before .before .before), (within c, omega arith))
+place-on-requires c κs = (fitting (s c), (within (e c), ((end-said c, end-fits c, c .leg-length .ensures), omega arith)))
 
 place-on-requires-2 : tie.Need-place-on-requires-2
-place-on-requires-2 c κs = let e = c .before in (fitting (e .before .before .before .before), (within e, omega arith))
+place-on-requires-2 c κs = let l = c .before in (fitting (s l), (within (e l), ((end-said l, end-fits l, l .leg-length .ensures), omega arith)))
 
 place-on-requires-3 : tie.Need-place-on-requires-3
-place-on-requires-3 c κs = let e = c .before .before in (fitting (e .before .before .before .before), (within e, omega arith))
+place-on-requires-3 c κs = let l = c .before .before in (fitting (s l), (within (e l), ((end-said l, end-fits l, l .leg-length .ensures), omega arith)))
 
 returns-2 : tie.Need-returns-2
 returns-2 c =
-    let b = c .before in let a = b .before in let e = a .before in
+    let b = c .before in let a = b .before in
     let north = passed (a .place-on .ensures) (a .place-on .ok) in
     let east = passed (b .place-on2 .ensures) (b .place-on2 .ok) in
     let up = passed (c .place-on3 .ensures) (c .place-on3 .ok) in
-    let free = within e in
+    let free = within (e (a .before)) in
     ((λ i. record { number = 0; values = north i ∷ east i ∷ up i ∷ [] }) ∙ simp free, (λ i. north i ∷ east i ∷ up i ∷ []) ∙ simp free)
 
 pub place-at-spec : {M : Type 1} → statement M
@@ -81,6 +101,7 @@ place-at-spec =
     bend-outside-requires
     refused-requires
     returns
+    leg-length-requires
     place-on-requires
     place-on-requires-2
     place-on-requires-3

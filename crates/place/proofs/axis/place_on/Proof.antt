@@ -11,7 +11,7 @@ use Rattle.systems.specs.Passes.{at}
 use Rattle.runner.specs.declared.Runner.{Runner}
 use Rattle.place.specs.Places.{endOf, bendOf, placeOn}
 use Rattle.place.specs.Asked.{Fitting}
-use Rattle.place.proofs.Fitting.{start-fits, end-is, list-room, leg-room, waypoint-room, numbers-fit}
+use Rattle.place.proofs.Fitting.{start-fits, list-room, waypoint-room, numbers-fit}
 use Rattle.place.proofs.axis.place_on.Statement.{statement}
 use Rattle.place.proofs.axis.place_on.Tie as tie
 
@@ -34,67 +34,54 @@ module _ (s : tie.Start) where
   fitting : Fitting sheet list (s .args .points) (s .args .legs) runner
   fitting = s .pre .0
 
-end-of-requires : tie.Need-end-of-requires
-end-of-requires c κs = start-fits (fitting (c .before))
-
-leg-length-requires : tie.Need-leg-length-requires
-leg-length-requires c κs = leg-room (fitting (c .before .before))
+  axis-fits : axis < 3
+  axis-fits = s .pre .1 .1 .1
 
 waypoint-on-requires : tie.Need-waypoint-on-requires
-waypoint-on-requires c κs =
-    let s = c .before .before .before in let f = fitting s in
-    (f .is-legs, s .pre .1 .1, waypoint-room f (start s) (start-fits f))
+waypoint-on-requires c κs = let s = c .before in let f = fitting s in (f .is-legs, axis-fits s, waypoint-room f (start s) (start-fits f))
 
 waypoint-on-requires-2 : tie.Need-waypoint-on-requires-2
 waypoint-on-requires-2 c κs =
-    let e = c .before .before in let s = e .before .before in let f = fitting s in
-    (f .is-legs, s .pre .1 .1, waypoint-room f (e .end-of .result) (e .end-of .ensures .1))
+    let s = c .before .before in let f = fitting s in
+    (f .is-legs, axis-fits s, waypoint-room f (s .args .end) (s .pre .1 .1 .0 .1))
 
 bend-of-requires : tie.Need-bend-of-requires
-bend-of-requires c κs = let s = c .before .before .before .before .before in let f = fitting s in (list-room f, s .pre .1 .1, start-fits f)
+bend-of-requires c κs = let s = c .before .before .before in let f = fitting s in (list-room f, axis-fits s, start-fits f)
 
 bend-of-requires-2 : tie.Need-bend-of-requires-2
-bend-of-requires-2 c κs =
-    let e = c .before .before .before .before in let s = e .before .before in
-    (list-room (fitting s), s .pre .1 .1, e .end-of .ensures .1)
+bend-of-requires-2 c κs = let s = c .before .before .before .before in (list-room (fitting s), axis-fits s, s .pre .1 .1 .0 .1)
 
 -- the numbers read
-
 module _ (c : tie.After-bend-of2) where
-  abbrev ended : tie.After-end-of
-  ended = c .before .before .before .before .before
-
   abbrev s : tie.Start
-  s = ended .before .before
+  s = c .before .before .before .before .before
 
   abbrev end : ℕ
   end = endOf (sheet s) (start s)
 
-  end-is-read : ended .end-of .result ≡ end
-  end-is-read = ended .end-of .ensures .0 ∙ end-is (fitting s)
+  end-is : s .args .end ≡ end
+  end-is = s .pre .1 .1 .0 .0
 
-  h-is : c .before .before .before .before .leg-length .result ≡ leg (sheet s) (start s)
-  h-is = c .before .before .before .before .leg-length .ensures
+  h-is : s .args .h ≡ leg (sheet s) (start s)
+  h-is = s .pre .1 .1 .0 .2
 
   v-is : read (c .before .before .before .waypoint-on .result) ≡ waypoint (sheet s) (axis s) (start s)
   v-is = let k = c .before .before .before .waypoint-on in passed (k .ensures) (k .ok)
 
   w-is : read (c .before .before .waypoint-on2 .result) ≡ waypoint (sheet s) (axis s) end
-  w-is = let k = c .before .before .waypoint-on2 in passed (k .ensures) (k .ok) ∙ ap (waypoint (sheet s) (axis s)) end-is-read
+  w-is = let k = c .before .before .waypoint-on2 in passed (k .ensures) (k .ok) ∙ ap (waypoint (sheet s) (axis s)) end-is
 
   z-is : read (c .before .bend-of .result) ≡ bendOf (sheet s) (list s) (axis s) (start s)
   z-is = let k = c .before .bend-of in passed (k .ensures) (k .ok) ∙ ap (λ n. at (list s) (axis s * n + start s)) (fitting s .is-points)
 
   y-is : read (c .bend-of2 .result) ≡ bendOf (sheet s) (list s) (axis s) end
-  y-is =
-      let k = c .bend-of2 in
-      passed (k .ensures) (k .ok) ∙ (λ i. at (list s) (axis s * fitting s .is-points i + end-is-read i))
+  y-is = let k = c .bend-of2 in passed (k .ensures) (k .ok) ∙ (λ i. at (list s) (axis s * fitting s .is-points i + end-is i))
 
 position-requires : tie.Need-position-requires
 position-requires c κs =
     let k = s c in
-    let inside : end c < k .args .points = omega (arith, end-is-read c, ended c .end-of .ensures .1) in
-    let fit = numbers-fit (fitting k) (k .pre .1 .0) (axis k) (k .pre .1 .1) inside in
+    let inside : end c < k .args .points = omega (arith, end-is c, k .pre .1 .1 .0 .1) in
+    let fit = numbers-fit (fitting k) (k .pre .1 .0) (axis k) (axis-fits k) inside in
     omega (arith, h-is c, ap natAbs (v-is c), ap natAbs (w-is c), ap natAbs (z-is c), ap natAbs (y-is c))
 
 returns : tie.Need-returns
@@ -106,13 +93,4 @@ returns c =
 
 pub place-on-spec : {M : Type 1} → statement M
 place-on-spec =
-    tie.close
-    (tie.spec
-    end-of-requires
-    leg-length-requires
-    waypoint-on-requires
-    waypoint-on-requires-2
-    bend-of-requires
-    bend-of-requires-2
-    position-requires
-    returns)
+    tie.close (tie.spec waypoint-on-requires waypoint-on-requires-2 bend-of-requires bend-of-requires-2 position-requires returns)
