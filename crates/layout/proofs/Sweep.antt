@@ -1,12 +1,10 @@
--- The loop of a pass (src/pass.rt) against `sweep` of crate systems: what holds before it, after each turn and at its end, and how large its numbers are.
+-- A pass of the code (src/pass.rt) against `sweep` of crate systems: what holds before it, after each turn and at its end, and how large its numbers are.
 use mathlib.Core.Path.{_≡_, refl, sym, _∙_, ap}
-use mathlib.Core.Bool.{Bool, false, not, _||_}
+use mathlib.Core.Bool.{Bool, false}
 use mathlib.Core.List.{List}
 use Prim.Native.Nat.{ℕ, suc, _+_, _-_, _≤_, _<_}
 use native.Mathlib.Numerals.{add-one}
 use native.Mathlib.Omega.{arith}
-use borrow.Author.Tests.{eqb-true, not-false}
-use lib.Dec.{eqb}
 use lib.IntN.{ℤ, pos, natAbs, _-ℤ_, _*ℤ_}
 use lib.ListN.{length, set}
 use lib.Seq.{getD-set-same, set-getD}
@@ -16,18 +14,16 @@ use Rattle.integers.proofs.Machine.{fits-abs, back}
 use Rattle.ends.specs.declared.EndKind.{EndKind}
 use Rattle.ends.specs.declared.EndKind.the-variants.{Free, Held, Closed}
 use Rattle.rounding.specs.Rounded.{rounded}
-use Rattle.sheet.proofs.Below.{or-left, or-right}
 use Rattle.systems.specs.Rows.{Row, Rows}
 use Rattle.systems.specs.Passes.{at, target, renewed, sweep, pass}
 use Rattle.systems.proofs.Lists.{step-present, step-absent, sweep-next, length-sweep}
 use Rattle.spline.specs.Spline.{Course, next, prev, freeRow, rowOf, rowsBy, rows}
 use Rattle.spline.proofs.Bends.{bends-bounded}
 use Rattle.layout.specs.Course.{course}
-use Rattle.layout.specs.Inside.{OnSheet, HasRow, Reached, Small, skipped, codeRow}
+use Rattle.layout.specs.Inside.{OnSheet, HasRow, Inner, Reached, Small, AllSmall, skipped, codeRow}
 use Rattle.layout.specs.declared.row.Row as code
 use Rattle.layout.proofs.Made.{read}
 use Rattle.layout.proofs.Given.{two-points, in-bounds}
-use Rattle.layout.proofs.Neighbours.{prev-later}
 use Rattle.layout.proofs.Passes.{passes-length}
 use Rattle.layout.proofs.Rows.{told-kind, row-present, free-start-row, free-end-row}
 
@@ -35,17 +31,33 @@ use Rattle.layout.proofs.Rows.{told-kind, row-present, free-start-row, 
 pub small-kept : (z : ℤ) → Small z → read z ≡ z
 small-kept z h = back refl (fits-abs z (omega arith))
 
+module _ {n : ℕ} {z : List ℤ} (a : AllSmall n z) where
+  pub kept : (j : ℕ) → j < n → read (at z j) ≡ at z j
+  kept j h = small-kept (at z j) (a .small j h)
+
+  -- a number that the machine holds as x, set where the same one was
+  pub unmoved : (x : ℤ) (i : ℕ) → i < n → ofZ w64 x ≡ ofZ w64 (at z i) → set z i (read x) ≡ z
+  unmoved x i h e = ap (set z i) (ap (toZ w64) e ∙ kept i h) ∙ set-getD z i (pos 0)
+
+  pub at-set : (v : ℤ) (i : ℕ) → i < n → at (set z i v) i ≡ v
+  at-set v i h = getD-set-same z i v (pos 0) (omega (arith, a .size))
+
 pub skipped-few : (k : EndKind) → skipped k ≤ 1
 skipped-few Free = omega arith
 skipped-few Held = omega arith
 skipped-few Closed = omega arith
 
--- before the turn at i, of a pass over z₀: it has come as far as i and made z of z₀, `left` is the number before i, and where `changed` is false z is still z₀
-pub record Through (s : List ℕ) (k : EndKind) (n axis : ℕ) (z₀ z : List ℤ) (changed : Bool) (i : ℕ) (left : ℤ) : Type 0 where
+-- between the ends every kind has inner rows
+pub between : (k : EndKind) (n i : ℕ) → 1 ≤ i → i + 1 < n → Inner k n i
+between Free n i a b = (a, b)
+between Held n i a b = (a, b)
+between Closed n i a b = omega arith
+
+-- before the turn at i, of a pass over z₀: it has come as far as i and made z of z₀, and where `changed` is false z is still z₀
+pub record Through (s : List ℕ) (k : EndKind) (n axis : ℕ) (z₀ z : List ℤ) (changed : Bool) (i : ℕ) : Type 0 where
   pub from : skipped k ≤ i
   pub upto : i + skipped k ≤ n
   pub swept : z ≡ sweep (rows (course s axis)) 65536 i z₀
-  pub leftIs : left ≡ at z (prev (course s axis) i)
   pub same : changed ≡ false → z ≡ z₀
 
 module _ {s : List ℕ} {k : EndKind} {n axis : ℕ} (o : OnSheet s k n axis) where
@@ -91,54 +103,39 @@ module _ {s : List ℕ} {k : EndKind} {n axis : ℕ} (o : OnSheet s k n axis) wh
   sweep-end Held q zs = ap (λ (j : ℕ). sweep R 65536 j zs) (omega arith)
   sweep-end Closed q zs = ap (λ (j : ℕ). sweep R 65536 j zs) (omega arith)
 
-  module _ (z₀ : List ℤ) (reached : Reached s axis z₀) where
-    pub start-length : length z₀ ≡ n
-    start-length = ap length (reached .numbers) ∙ passes-length s axis (reached .count) ∙ sym (o .samePoints)
+  pub through-start : (z₀ : List ℤ) (i : ℕ) → i ≡ skipped k → Through s k n axis z₀ z₀ false i
+  through-start z₀ i e = record {
+    from = omega arith;
+    upto = omega (arith, two-points o, skipped-few k);
+    swept = sym (ap (λ (j : ℕ). sweep R 65536 j z₀) e ∙ sweep-start k refl z₀);
+    same = λ f. refl;
+  }
 
-    pub through-start : (i : ℕ) → i ≡ skipped k → (left : ℤ) → left ≡ at z₀ (prev c i) → Through s k n axis z₀ z₀ false i left
-    through-start i e left l = record {
-      from = omega arith;
-      upto = omega (arith, two-points o, skipped-few k);
-      swept = sym (ap (λ (j : ℕ). sweep R 65536 j z₀) e ∙ sweep-start k refl z₀);
-      leftIs = l;
-      same = λ f. refl;
+  module _ {z₀ z : List ℤ} {changed : Bool} {i : ℕ} (t : Through s k n axis z₀ z changed i) where
+    pub through-turn : i + skipped k < n → (z' : List ℤ) → z' ≡ set z i (renewed R 65536 z i)
+        → (now : Bool) → (now ≡ false → (changed ≡ false) × (z' ≡ z)) → Through s k n axis z₀ z' now (i + 1)
+    through-turn h z' e now f = record {
+      from = omega (arith, t .from);
+      upto = omega arith;
+      swept = e ∙ ap (λ (l : List ℤ). set l i (renewed R 65536 l i)) (t .swept) ∙ sym (sweep-set z₀ i (t .from, h));
+      same = λ g. f g .1 ∙ t .same (f g .0);
     }
 
-    module _ {z : List ℤ} {changed : Bool} {i : ℕ} {left : ℤ} (t : Through s k n axis z₀ z changed i left) where
-      pub through-length : length z ≡ n
-      through-length = ap length (t .swept) ∙ length-sweep R 65536 i z₀ ∙ start-length
+    pub through-end : n - skipped k ≤ i → (z ≡ pass R 65536 z₀) × (changed ≡ false → z ≡ z₀)
+    unfolding pass rowsBy course
+    through-end h =
+        let e : i ≡ n - skipped k = omega (arith, t .upto) in
+        let to : ℕ → List ℤ = λ j. sweep R 65536 j z₀ in
+        (t .swept ∙ ap to e ∙ sym (sweep-end k refl z₀) ∙ ap to (o .samePoints), t .same)
 
-      pub through-small : (j : ℕ) → j < n → Small (at z j)
-      unfolding course
-      through-small j h =
-          rw (t .swept, reached .numbers)
-          (bends-bounded c (in-bounds o) (reached .count) i j (omega (arith, o .samePoints, t .upto)) (omega (arith, o .samePoints)))
+  pub start-length : (z₀ : List ℤ) → Reached s axis z₀ → length z₀ ≡ n
+  start-length z₀ reached = ap length (reached .numbers) ∙ passes-length s axis (reached .count) ∙ sym (o .samePoints)
 
-      pub through-end : n - skipped k ≤ i → (z ≡ pass R 65536 z₀) × (changed ≡ false → z ≡ z₀)
-      unfolding pass rowsBy course
-      through-end h =
-          let e : i ≡ n - skipped k = omega (arith, t .upto) in
-          let to : ℕ → List ℤ = λ j. sweep R 65536 j z₀ in
-          (t .swept ∙ ap to e ∙ sym (sweep-end k refl z₀) ∙ ap to (o .samePoints), t .same)
-
-      -- a turn sets a number that the machine holds as x, and compares it with the one that was there
-      abbrev differs : ℤ → Bool
-      differs x = not (eqb (ofZ w64 x) (ofZ w64 (at z i)))
-
-      found : (x : ℤ) → i < n → differs x ≡ false → read x ≡ at z i
-      found x h e =
-          let equal = not-false (eqb (ofZ w64 x) (ofZ w64 (at z i))) e in
-          ap (toZ w64) (eqb-true (ofZ w64 x) (ofZ w64 (at z i)) equal) ∙ small-kept (at z i) (through-small i h)
-
-      pub through-turn : (x : ℤ) → i + skipped k < n → read x ≡ renewed R 65536 z i
-          → Through s k n axis z₀ (set z i (read x)) (changed || differs x) (i + 1) (read x)
-      through-turn x h e = record {
-        from = omega (arith, t .from);
-        upto = omega arith;
-        swept = ap (set z i) e ∙ ap (λ (l : List ℤ). set l i (renewed R 65536 l i)) (t .swept) ∙ sym (sweep-set z₀ i (t .from, h));
-        leftIs = sym (getD-set-same z i (read x) (pos 0) (omega (arith, through-length))) ∙ ap (at (set z i (read x))) is-prev;
-        same = λ f. ap (set z i) (found x (omega arith) (or-right changed (differs x) f)) ∙ set-getD z i (pos 0) ∙ t .same (or-left changed (differs x) f);
-      }
-        where
-          is-prev : i ≡ prev c (i + 1)
-          is-prev = omega (arith, prev-later c (i + 1) (omega arith))
+  pub through-small : {z₀ z : List ℤ} {changed : Bool} {i : ℕ} → Reached s axis z₀ → Through s k n axis z₀ z changed i → AllSmall n z
+  unfolding course
+  through-small {z₀} {i = i} reached t = record {
+    size = ap length (t .swept) ∙ length-sweep R 65536 i z₀ ∙ start-length z₀ reached;
+    small = λ j h.
+        rw (t .swept, reached .numbers)
+        (bends-bounded c (in-bounds o) (reached .count) i j (omega (arith, o .samePoints, t .upto)) (omega (arith, o .samePoints)));
+  }

@@ -1,16 +1,17 @@
 -- What the functions inside laying out say of each other. No promise of `lay_out` rests on these words.
 use mathlib.Core.Path.{_≡_}
+use mathlib.Core.Bool.{Bool, true, false, cond}
 use mathlib.Core.List.{List}
 use Prim.Native.Nat.{ℕ, _+_, _≤_, _<_}
 use lib.IntN.{ℤ, pos, natAbs}
-use lib.ListN.{replicate}
+use lib.ListN.{length, replicate}
 use lib.Signed.{_≤ℤ_}
 use Rattle.ends.specs.declared.EndKind.{EndKind}
 use Rattle.ends.specs.declared.EndKind.the-variants.{Free, Held, Closed}
 use Rattle.sheet.specs.Fields.{kind, points}
 use Rattle.sheet.specs.Theorems.{Bounds}
 use Rattle.systems.specs.Rows as systems
-use Rattle.systems.specs.Passes.{passes}
+use Rattle.systems.specs.Passes.{at, passes}
 use Rattle.spline.specs.Spline.{rows}
 use Rattle.layout.specs.Course.{course}
 use Rattle.layout.specs.declared.row.Row.{Row}
@@ -22,11 +23,15 @@ pub record OnSheet (s : List ℕ) (k : EndKind) (n axis : ℕ) : Type 0 where
   pub samePoints : n ≡ points s
   pub axisFits : axis < 3
 
--- how many waypoints at each end have no row: 01, "Free: .. the ends have no row"
+-- whether the first and the last waypoint have rows: 01, "Free: .. the ends have no row"
+abbrev pub endRows : EndKind → Bool
+endRows Free = false
+endRows Held = true
+endRows Closed = true
+
+-- how many waypoints at each end have no row
 abbrev pub skipped : EndKind → ℕ
-skipped Free = 1
-skipped Held = 0
-skipped Closed = 0
+skipped k = cond (endRows k) 0 1
 
 -- of n waypoints, i has a row
 abbrev pub HasRow : EndKind → ℕ → ℕ → Type 0
@@ -58,6 +63,11 @@ pub record Sized (r : Row) : Type 0 where
 -- DESIGN 3.3's bound on every bend number in every pass
 abbrev pub Small : ℤ → Type 0
 Small z = natAbs z ≤ 131_399_680_001
+
+-- n numbers, all of them small
+pub record AllSmall (n : ℕ) (z : List ℤ) : Type 0 where
+  pub size : length z ≡ n
+  pub small : (j : ℕ) → j < n → Small (at z j)
 
 -- the numbers on an axis after m passes from zeros
 abbrev pub afterPasses : List ℕ → ℕ → ℕ → List ℤ

@@ -5,13 +5,13 @@ use ends::EndKind;
 ghost use mathlib.Core.Path.{_≡_};
 ghost use mathlib.Core.Bool.{false};
 ghost use lib.IntN.{pos, natAbs, _-ℤ_, _*ℤ_};
-ghost use lib.ListN.{length, replicate};
+ghost use lib.ListN.{length, set, replicate};
 ghost use Rattle.rounding.specs.Rounded.{rounded};
 ghost use Rattle.systems.specs.Passes as systems;
 ghost use Rattle.spline.specs.Spline.{rows};
 ghost use Rattle.spline.specs.Theorems.{bends};
 ghost use Rattle.layout.specs.Course.{course};
-ghost use Rattle.layout.specs.Inside.{OnSheet, Sized, Small, Reached, skipped};
+ghost use Rattle.layout.specs.Inside.{OnSheet, HasRow, Sized, Small, AllSmall, Reached, endRows};
 
 // 01: "(65,536 × right side - the outer products, with the Z as they are now) / the middle factor", rounded
 fn renewed(row: Row, left: i64, next: i64) -> i64
@@ -24,34 +24,58 @@ fn renewed(row: Row, left: i64, next: i64) -> i64
     )
 }
 
-// How many waypoints at each end have no row: 01, "Free: .. the ends have no row".
-fn skipped(kind: EndKind) -> usize
-    ensures { λ r. ⌜ r ≡ skipped kind ⌝ }
+// Whether the first and the last waypoint have rows: 01, "Free: .. the ends have no row".
+fn ends_have_rows(kind: EndKind) -> bool
+    ensures { λ r. ⌜ r ≡ endRows kind ⌝ }
 {
     match kind {
-        EndKind::Free => 1,
-        EndKind::Held => 0,
-        EndKind::Closed => 0,
+        EndKind::Free => false,
+        EndKind::Held => true,
+        EndKind::Closed => true,
     }
 }
 
-// 01: "A pass goes from the first waypoint to the last, in place". The number just set is the next row's left neighbour. Answers whether a number changed.
+// The turn at a waypoint that has a row, with the numbers as they are now. Answers whether its number changed.
+fn turn(s: &[u8], kind: EndKind, n: usize, axis: usize, i: usize, z: &mut [i64]) -> bool
+    requires { ⌜ OnSheet (now s) kind n axis × HasRow kind n i × AllSmall n (now z) ⌝ }
+    ensures number { λ r. ⌜ now (z .exit) ≡ set (now (z .entry)) i (systems.renewed (rows (course (now (s .entry)) axis)) 65536 (now (z .entry)) i) ⌝ }
+    ensures settled { λ r. ⌜ (r ≡ false → now (z .exit) ≡ now (z .entry)) ⌝ }
+{
+    let old = z[i];
+    let left = z[row::before(i, n)];
+    let x = renewed(row::row_at(s, kind, n, axis, i), left, z[row::after(i, n)]);
+    z[i] = x;
+    x != old
+}
+
+// 01: "A pass goes from the first waypoint to the last, in place": the first if it has a row, the inner ones, the last if it has a row. Answers whether a number
+// changed. The number just set is the next row's left neighbour; where it is the old one, the old one is taken, so that the next division need not wait for it.
 fn pass(s: &[u8], kind: EndKind, n: usize, axis: usize, z: &mut [i64]) -> bool
     requires { ⌜ OnSheet (now s) kind n axis × Reached (now s) axis (now z) ⌝ }
     ensures numbers { λ r. ⌜ now (z .exit) ≡ systems.pass (rows (course (now (s .entry)) axis)) 65536 (now (z .entry)) ⌝ }
     ensures settled { λ r. ⌜ (r ≡ false → now (z .exit) ≡ now (z .entry)) ⌝ }
 {
+    let ends = ends_have_rows(kind);
     let mut changed = false;
-    let mut i = skipped(kind);
-    let end = n - i;
-    let mut left = z[row::before(i, n)];
-    while i < end {
+    if ends {
+        changed = turn(s, kind, n, axis, 0, z);
+    }
+    let mut left = z[0];
+    let mut i = 1;
+    while i + 1 < n {
         let old = z[i];
-        let x = renewed(row::row_at(s, kind, n, axis, i), left, z[row::after(i, n)]);
-        changed = changed | (x != old);
-        z[i] = x;
-        left = x;
+        let x = renewed(row::inner_at(s, kind, n, axis, i), left, z[i + 1]);
+        if x == old {
+            left = old;
+        } else {
+            z[i] = x;
+            changed = true;
+            left = x;
+        }
         i = i + 1;
+    }
+    if ends {
+        return turn(s, kind, n, axis, i, z) | changed;
     }
     changed
 }

@@ -58,15 +58,17 @@ pub fn after(i: usize, n: usize) -> usize
     if i + 1 < n { i + 1 } else { 0 }
 }
 
-// 01: "g×g×h × s(i-1) + 2×g×h×(g+h) × s(i) + g×h×h × s(i+1) = g×d - h×e"
+// 01: "g×g×h × s(i-1) + 2×g×h×(g+h) × s(i) + g×h×h × s(i+1) = g×d - h×e"; the middle factor by 01's "the outer factors add up to half of the middle one".
 fn inner(g: i64, h: i64, d: i64, e: i64) -> Row
     requires { ⌜ Leg g × Leg h × (natAbs d ≤ 2_000_000) × (natAbs e ≤ 2_000_000) ⌝ }
     ensures { λ r. ⌜ (r ≡ codeRow (innerRow 2 1 (natAbs g) (natAbs h) d e)) × Sized r ⌝ }
 {
+    let before = g * g * h;
+    let after = g * h * h;
     Row {
-        before: g * g * h,
-        middle: 2 * g * h * (g + h),
-        after: g * h * h,
+        before,
+        middle: 2 * (before + after),
+        after,
         right: g * d - h * e,
     }
 }
@@ -98,7 +100,7 @@ fn held_end(g: i64, e: i64, p: i64) -> Row
 }
 
 // "Inner waypoint, or any waypoint of a closed course"
-fn inner_at(s: &[u8], kind: EndKind, n: usize, axis: usize, i: usize) -> Row
+pub fn inner_at(s: &[u8], kind: EndKind, n: usize, axis: usize, i: usize) -> Row
     requires { ⌜ OnSheet (now s) kind n axis × Inner kind n i ⌝ }
     ensures { λ r. ⌜ (r ≡ codeRow (rowOf 2 1 kind (course (now (s .entry)) axis) i)) × Sized r ⌝ }
 {

@@ -1,52 +1,87 @@
--- `layout::pass::pass` meets its contract: the loop's invariant is `Through` (proofs/Sweep), one turn is one step of the pass, and all numbers stay small
+-- `layout::pass::pass` meets its contract: each turn, at an end or between, is one step of the pass (`Through` of proofs/Sweep), and all numbers stay small
 -- because they are those of some count of passes from zeros.
-use mathlib.Core.Path.{_≡_, sym, ap, _∙_, subst}
+use mathlib.Core.Path.{_≡_, refl, sym, ap, _∙_, subst}
+use mathlib.Core.Bool.{Bool, true, false, cond, _||_, false≢true}
 use mathlib.Core.List.{List}
-use Prim.Native.Nat.{ℕ, _+_, _-_, _<_}
+use mathlib.Core.Logic.{⊎-elim}
+use Prim.Native.Nat.{ℕ, _+_, _-_, _≤_, _<_}
 use native.Mathlib.Omega.{arith}
 use lib.IntN.{ℤ}
-use lib.ListN.{length}
+use lib.ListN.{length, set}
 use mir.Syntax.{w64}
 use mir.Val.{toZ}
+use Rattle.ends.specs.declared.EndKind.{EndKind}
+use Rattle.sheet.proofs.Below.{or-left, or-right}
 use Rattle.systems.specs.Passes.{at, renewed}
-use Rattle.spline.specs.Spline.{Course, prev}
+use Rattle.spline.specs.Spline.{Course, prev, rows}
 use Rattle.layout.specs.Course.{course}
-use Rattle.layout.specs.Inside.{skipped, Small}
+use Rattle.layout.specs.Inside.{skipped, Small, AllSmall}
 use Rattle.layout.proofs.Given.{two-points, few-points, prev-fits}
 use Rattle.layout.proofs.Made.{read, passed}
-use Rattle.layout.proofs.Sweep.{small-kept, skipped-few, Through, turn-renews, start-length, through-start, through-length, through-small}
-use Rattle.layout.proofs.Sweep.{through-end, through-turn}
+use Rattle.layout.proofs.Neighbours.{prev-later, next-inner}
+use Rattle.layout.proofs.Sweep.{Through, skipped-few, between, kept, unmoved, at-set, turn-renews, start-length}
+use Rattle.layout.proofs.Sweep.{through-start, through-small, through-turn, through-end}
 use Rattle.layout.proofs.pass.pass.Statement.{statement}
 use Rattle.layout.proofs.pass.pass.Tie as tie
 
+-- the loop goes on from where the first waypoint's turn, or none, left the pass
 abbrev Inv-loop : tie.InvT-loop
-Inv-loop s kind n axis z₀ changed₀ i₀ end left₀ z changed i left = Through s kind n axis z₀ z changed i (toZ w64 left)
+Inv-loop s kind n axis z₀ ends changed₀ left₀ i₀ z changed left i =
+    (1 ≤ i) × (i + 1 ≤ n) × ((zs : List ℤ) → Through s kind n axis zs z₀ changed₀ 1 → Through s kind n axis zs z changed i)
+    × (toZ w64 left ≡ at z (prev (course s axis) i))
 
 abbrev μ-loop : tie.MeasureT-loop
-μ-loop s kind n axis z₀ changed₀ i₀ end left₀ z changed i left = end - i
+μ-loop s kind n axis z₀ ends changed₀ left₀ i₀ z changed left i = n - i
 
--- before the loop
-skipped-requires : tie.Need-skipped-requires Inv-loop μ-loop
-skipped-requires c κs = tt
+ends-have-rows-requires : tie.Need-ends-have-rows-requires Inv-loop μ-loop
+ends-have-rows-requires c κs = tt
 
-sub-end : tie.Need-sub-end Inv-loop μ-loop
-sub-end c = let s = c .before .before in omega (arith, two-points (s .pre .0), skipped-few (s .args .kind), c .skipped .ensures)
+-- how far this call has come
+abbrev Come : tie.Start Inv-loop μ-loop → List ℤ → Bool → ℕ → Type 0
+Come s z changed i = Through (s .args .s .now) (s .args .kind) (s .args .n) (s .args .axis) (s .args .z .now) z changed i
 
-before-requires : tie.Need-before-requires Inv-loop μ-loop
-before-requires c κs = let s = c .before .before in omega (arith, two-points (s .pre .0), skipped-few (s .args .kind), c .skipped .ensures)
+begin : (s : tie.Start Inv-loop μ-loop) (i : ℕ) → i ≡ skipped (s .args .kind) → Come s (s .args .z .now) false i
+begin s = through-start (s .pre .0) (s .args .z .now)
 
-mul-left : tie.Need-mul-left Inv-loop μ-loop
-mul-left c = omega (arith, few-points (c .before .before .before .pre .0), c .before2 .ensures .0)
+come-small : (s : tie.Start Inv-loop μ-loop) {z : List ℤ} {changed : Bool} {i : ℕ} → Come s z changed i → AllSmall (s .args .n) z
+come-small s = through-small (s .pre .0) (s .pre .1)
+
+-- the ends have rows, or are left out
+module _ (k : tie.After-ends-have-rows Inv-loop μ-loop) where
+  abbrev kind : EndKind
+  kind = k .before .before .args .kind
+
+  skips : (b : Bool) → k .ends-have-rows .result ≡ b → cond b 0 1 ≡ skipped kind
+  skips b e = ap (λ r. cond r 0 1) (sym e ∙ k .ends-have-rows .ensures)
+
+turn-requires : tie.Need-turn-requires Inv-loop μ-loop
+turn-requires c κs =
+    let k = c .before .before in let s = k .before .before in let e = skips k true (c .before .if1 .taken) in
+    (s .pre .0, (omega arith, omega (arith, two-points (s .pre .0))), come-small s (begin s 0 e))
+
+-- the first waypoint is passed
+begun : (c : tie.Joined1 Inv-loop μ-loop) → Come (c .before .before .before) (c .if1 .z) (c .if1 .changed) 1
+begun c =
+    let k = c .before in let s = k .before .before in let o = s .pre .0 in
+    ⊎-elim
+    (λ w.
+    let e = skips k true (w .0 .taken) in
+    through-turn o (begin s 0 e) (omega (arith, two-points o)) (c .if1 .z) (w .4 ∙ w .2 .ensures .0) (c .if1 .changed)
+    (λ f. (refl, w .4 ∙ w .2 .ensures .1 (sym (w .5) ∙ f))))
+    (λ w. rw (w .1, w .2) (begin s 1 (skips k false (w .0 .left))))
+    (c .if1 .came)
+
+begun-small : (c : tie.Joined1 Inv-loop μ-loop) → AllSmall (c .before .before .before .args .n) (c .if1 .z)
+begun-small c = come-small (c .before .before .before) (begun c)
 
 slice-copy-out-left : tie.Need-slice-copy-out-left Inv-loop μ-loop
-slice-copy-out-left c = let s = c .before .before .before in omega (arith, start-length (s .pre .0) (s .args .z .now) (s .pre .1), c .before2 .ensures .0)
+slice-copy-out-left c = omega (arith, begun-small c .size, two-points (c .before .before .before .pre .0))
 
 loop-holds : tie.Need-loop-holds Inv-loop μ-loop
-unfolding course
 loop-holds c =
-    let b = c .before in let s = b .before .before .before in let (o, reached) = s .pre in let z = s .args .z .now in
-    through-start o z reached (b .before .skipped .result) (b .before .skipped .ensures) (read (at z (b .before2 .result)))
-    (passed (ap (at z) (b .before2 .ensures .1 (course (s .args .s .now) (s .args .axis)) (sym (o .samePoints)))) (c .left .given))
+    let b = c .before in let s = b .before .before .before in let two = two-points (s .pre .0) in
+    let first = ap (at (b .if1 .z)) (prev-later (course (s .args .s .now) (s .args .axis)) 1 (omega arith)) in
+    (omega arith, omega (arith, two), λ zs t. t, kept (begun-small b) 0 (omega (arith, two)) ∙ first)
 
 -- in a turn at i
 module _ (a : tie.At-loop Inv-loop μ-loop) where
@@ -59,44 +94,42 @@ module _ (a : tie.At-loop Inv-loop μ-loop) where
   abbrev c-of : Course
   c-of = course (s .args .s .now) (s .args .axis)
 
-  same-size : length z ≡ s .args .n
-  same-size = through-length (s .pre .0) (s .args .z .now) (s .pre .1) (a .loop .inv)
+  come : Come s z (a .loop .changed) (a .loop .i)
+  come = a .loop .inv .2 (s .args .z .now) (begun (a .before .before))
 
-  small : (j : ℕ) → j < s .args .n → Small (at z j)
-  small = through-small (s .pre .0) (s .args .z .now) (s .pre .1) (a .loop .inv)
+  small : AllSmall (s .args .n) z
+  small = come-small s come
 
-  -- a number that is read
-  kept : (j : ℕ) → j < s .args .n → read (at z j) ≡ at z j
-  kept j h = small-kept (at z j) (small j h)
-
-within : (c : tie.In-loop Inv-loop μ-loop) → let a = c .before in a .loop .i + skipped (s a .args .kind) < s a .args .n
-within c = omega (arith, c .loop-test .taken, c .before .before .before .before .skipped .ensures)
+add-loop : tie.Need-add-loop Inv-loop μ-loop
+add-loop a = omega (arith, few-points (s a .pre .0), a .loop .inv .1)
 
 mul-old : tie.Need-mul-old Inv-loop μ-loop
-mul-old c = omega (arith, few-points (s (c .before) .pre .0), within c)
+mul-old c = omega (arith, few-points (s (c .before) .pre .0), c .loop-test .taken)
 
 slice-copy-out-old : tie.Need-slice-copy-out-old Inv-loop μ-loop
-slice-copy-out-old c = omega (arith, same-size (c .before), within c)
+slice-copy-out-old c = omega (arith, small (c .before) .size, c .loop-test .taken)
 
-row-at-requires : tie.Need-row-at-requires Inv-loop μ-loop
-row-at-requires c κs = let l = c .before in let a = l .before in (s a .pre .0, (a .loop .inv .from, within l))
+inner-at-requires : tie.Need-inner-at-requires Inv-loop μ-loop
+inner-at-requires c κs =
+    let l = c .before in let a = l .before in
+    (s a .pre .0, between (s a .args .kind) (s a .args .n) (a .loop .i) (a .loop .inv .0) (l .loop-test .taken))
 
-after-requires : tie.Need-after-requires Inv-loop μ-loop
-after-requires c κs = omega (arith, within (c .before .before))
+add-renewed : tie.Need-add-renewed Inv-loop μ-loop
+add-renewed c = add-loop (c .before .before .before)
 
 mul-renewed : tie.Need-mul-renewed Inv-loop μ-loop
-mul-renewed c = omega (arith, few-points (s (c .before .before .before .before) .pre .0), c .after .ensures .0)
+mul-renewed c = let l = c .before .before in omega (arith, few-points (s (l .before) .pre .0), l .loop-test .taken)
 
 slice-copy-out-renewed : tie.Need-slice-copy-out-renewed Inv-loop μ-loop
-slice-copy-out-renewed c = omega (arith, same-size (c .before .before .before .before), c .after .ensures .0)
+slice-copy-out-renewed c = let l = c .before .before in omega (arith, small (l .before) .size, l .loop-test .taken)
 
 renewed-requires : tie.Need-renewed-requires Inv-loop μ-loop
 renewed-requires c κs =
-    let f = c .before in let l = f .before .before .before in let a = l .before in let q = f .after in
-    let p-fits = prev-fits (s a .pre .0) (a .loop .i) (omega (arith, within l)) in (
-      f .before .row-at .ensures .1,
-      subst Small (sym (a .loop .inv .leftIs)) (small a (prev (c-of a) (a .loop .i)) p-fits),
-      subst Small (sym (kept a (q .result) (q .ensures .0))) (small a (q .result) (q .ensures .0)),
+    let r = c .before in let l = r .before .before in let a = l .before in let i = a .loop .i in let h = l .loop-test .taken in
+    let p-fits = prev-fits (s a .pre .0) i (omega arith) in (
+      r .inner-at .ensures .1,
+      subst Small (sym (a .loop .inv .3)) (small a .small (prev (c-of a) i) p-fits),
+      subst Small (sym (kept (small a) (i + 1) h)) (small a .small (i + 1) h),
     )
 
 mul-x : tie.Need-mul-x Inv-loop μ-loop
@@ -106,28 +139,90 @@ slice-set-from-x : tie.Need-slice-set-from-x Inv-loop μ-loop
 slice-set-from-x c = slice-copy-out-old (c .before .before .before .before .before)
 
 add-i : tie.Need-add-i Inv-loop μ-loop
-add-i c = let l = c .before .before .before .before .before in omega (arith, few-points (s (l .before) .pre .0), within l)
+add-i c = add-loop (c .before .before .before .before .before .before)
 
 loop-less : tie.Need-loop-less Inv-loop μ-loop
 loop-less c = omega (arith, c .before .before .before .before .before .loop-test .taken)
 
-loop-again : tie.Need-loop-again Inv-loop μ-loop
-unfolding course
-loop-again c =
-    let f = c .before .before in let l = f .before .before .before in let a = l .before in let o = s a .pre .0 in let q = f .after in
-    let right = kept a (q .result) (q .ensures .0) ∙ ap (at (z a)) (q .ensures .1 (c-of a) (sym (o .samePoints))) in
-    let row = f .before .row-at in
-    let new = turn-renews o (z a) (a .loop .i) (row .result) (toZ w64 (a .loop .left)) (read (at (z a) (q .result))) (row .ensures .0) (a .loop .inv .leftIs) right in
-    through-turn o (s a .args .z .now) (s a .pre .1) (a .loop .inv) (c .renewed .result) (within l) (passed (c .renewed .ensures) (c .renewed .ok) ∙ new)
+-- the number worked out is the step's; it is set, or is there already
+module _ (c : tie.Joined2 Inv-loop μ-loop) where
+  abbrev f : tie.After-renewed Inv-loop μ-loop
+  f = c .before
 
--- after the loop
+  abbrev l : tie.In-loop Inv-loop μ-loop
+  l = f .before .before .before .before
+
+  abbrev a : tie.At-loop Inv-loop μ-loop
+  a = l .before
+
+  abbrev i : ℕ
+  i = a .loop .i
+
+  abbrev x : ℤ
+  x = f .renewed .result
+
+  fits : i < s a .args .n
+  fits = omega (arith, l .loop-test .taken)
+
+  new : read x ≡ renewed (rows (c-of a)) 65536 (z a) i
+  unfolding course
+  new =
+      let row = f .before .before .inner-at in let o = s a .pre .0 in let next-fits = l .loop-test .taken in
+      let right = kept (small a) (i + 1) next-fits ∙ ap (at (z a)) (next-inner (c-of a) i (omega (arith, o .samePoints))) in
+      passed (f .renewed .ensures) (f .renewed .ok) ∙ turn-renews o (z a) i (row .result) _ _ (row .ensures .0) (a .loop .inv .3) right
+
+  turned : (c .if2 .z ≡ set (z a) i (renewed (rows (c-of a)) 65536 (z a) i)) × (c .if2 .changed ≡ false → (a .loop .changed ≡ false) × (c .if2 .z ≡ z a))
+      × (toZ w64 (c .if2 .left) ≡ at (c .if2 .z) i)
+  turned = ⊎-elim
+      (λ w. (
+        w .1 ∙ sym (unmoved (small a) x i fits (w .0 .taken)) ∙ ap (set (z a) i) new,
+        λ e. (sym (w .2) ∙ e, w .1),
+        ap (toZ w64) (w .3) ∙ kept (small a) i fits ∙ sym (ap (λ (m : List ℤ). at m i) (w .1)),
+      ))
+      (λ w. (
+        w .1 ∙ ap (set (z a) i) new,
+        λ e. absurd (false≢true (sym e ∙ w .2)),
+        ap (toZ w64) (w .3) ∙ sym (ap (λ (m : List ℤ). at m i) (w .1) ∙ at-set (small a) (read x) i fits),
+      ))
+      (c .if2 .came)
+
+loop-again : tie.Need-loop-again Inv-loop μ-loop
+loop-again c =
+    let g = s (a c) in let (set-to, same, left) = turned c in
+    let few : i c + skipped (g .args .kind) < g .args .n = omega (arith, skipped-few (g .args .kind), l c .loop-test .taken) in (
+      omega arith,
+      omega (arith, l c .loop-test .taken),
+      λ zs t. through-turn (g .pre .0) (a c .loop .inv .2 zs t) few (c .if2 .z) set-to (c .if2 .changed) same,
+      left ∙ ap (at (c .if2 .z)) (omega (arith, prev-later (c-of (a c)) (i c + 1) (omega arith))),
+    )
+
+-- after the loop: the last waypoint
+in-length : (b : tie.At-loop Inv-loop μ-loop) → length (z b) ≡ length (s b .args .z .now)
+in-length b = small b .size ∙ sym (start-length (s b .pre .0) (s b .args .z .now) (s b .pre .1))
+
+turn-requires-2 : tie.Need-turn-requires-2 Inv-loop μ-loop
+turn-requires-2 c κs =
+    let b = c .before .before .before in let e = skips (b .before .before .before) true (c .before .if3 .taken) in
+    (s b .pre .0, (omega arith, omega (arith, b .loop .inv .1)), small b)
+
 same-length : tie.Need-same-length Inv-loop μ-loop
-same-length c = let a = c .before in same-size a ∙ sym (start-length (s a .pre .0) (s a .args .z .now) (s a .pre .1))
+same-length c = let f = c .before in f .turn2 .kept .1 .1 .1 .1 .1 .0 ∙ in-length (f .before .before .before .before)
 
 returns : tie.Need-returns Inv-loop μ-loop
 returns c =
-    let a = c .before in
-    through-end (s a .pre .0) (s a .args .z .now) (s a .pre .1) (a .loop .inv) (omega (arith, c .loop-test .left, a .before .before .before .skipped .ensures))
+    let f = c .before in let d = f .before .before in let b = d .before .before in
+    let e = skips (b .before .before .before) true (d .if3 .taken) in let (number, settled) = f .turn2 .ensures in
+    let r = f .turn2 .result in let ch = b .loop .changed in
+    let last = through-turn (s b .pre .0) (come b) (omega (arith, b .loop .inv .1)) _ number (r || ch) (λ g. (or-right r ch g, settled (or-left r ch g))) in
+    through-end (s b .pre .0) last (omega (arith, d .before .loop-test .left))
+
+same-length-2 : tie.Need-same-length-2 Inv-loop μ-loop
+same-length-2 c = in-length (c .before .before)
+
+returns-2 : tie.Need-returns-2 Inv-loop μ-loop
+returns-2 c =
+    let b = c .before .before in
+    through-end (s b .pre .0) (come b) (omega (arith, skips (b .before .before .before) false (c .if3 .left), c .before .loop-test .left))
 
 pub pass-spec : {M : Type 1} → statement M
 pass-spec =
@@ -135,16 +230,15 @@ pass-spec =
     (tie.spec
     Inv-loop
     μ-loop
-    skipped-requires
-    sub-end
-    before-requires
-    mul-left
+    ends-have-rows-requires
+    turn-requires
     slice-copy-out-left
     loop-holds
+    add-loop
     mul-old
     slice-copy-out-old
-    row-at-requires
-    after-requires
+    inner-at-requires
+    add-renewed
     mul-renewed
     slice-copy-out-renewed
     renewed-requires
@@ -153,5 +247,8 @@ pass-spec =
     add-i
     loop-less
     loop-again
+    turn-requires-2
     same-length
-    returns)
+    returns
+    same-length-2
+    returns-2)

@@ -1,8 +1,9 @@
 -- `layout::row::inner` meets its contract: with legs up to 256 and value steps up to 2,000,000 no product leaves 64 bits, so each number is 01's.
-use mathlib.Core.Path.{refl}
+use mathlib.Core.Path.{_≡_, refl}
 use native.Mathlib.Nat.{mul-pos}
 use native.Mathlib.Omega.{arith}
-use lib.IntN.{pos, natAbs}
+use lib.IntN.{ℤ, pos, natAbs, _+ℤ_, _*ℤ_}
+use Rattle.integers.proofs.Ring.{solve, _≋_, _⊕_, _⊗_, #_}
 use Rattle.spline.specs.Spline.{innerRow}
 use Rattle.layout.proofs.Made.{Made, given, fits, times, plus, minus}
 use Rattle.layout.proofs.RowMade.{leg-some, leg-made, two, once, row-made}
@@ -22,49 +23,48 @@ module _ (s : tie.Start) where
   e : Made (s .args .e) (s .args .e) 2_000_000
   e = given refl (s .pre .3) tt
 
-mul-t5 : tie.Need-mul-t5
-mul-t5 c = fits (times (g c) (g c) tt)
+mul-before : tie.Need-mul-before
+mul-before c = fits (times (g c) (g c) tt)
 
-mul-t6 : tie.Need-mul-t6
-mul-t6 c = fits (times (times (g c) (g c) tt) (h c) tt)
+mul-before-2 : tie.Need-mul-before-2
+mul-before-2 c = fits (times (times (g c) (g c) tt) (h c) tt)
 
-mul-t7 : tie.Need-mul-t7
-mul-t7 c = fits (times two (g c) tt)
+mul-after : tie.Need-mul-after
+mul-after c = fits (times (g c) (h c) tt)
+
+mul-after-2 : tie.Need-mul-after-2
+mul-after-2 c = fits (times (times (g c) (h c) tt) (h c) tt)
+
+add-t7 : tie.Need-add-t7
+add-t7 c = fits (plus (times (times (g c) (g c) tt) (h c) tt) (times (times (g c) (h c) tt) (h c) tt) tt)
 
 mul-t8 : tie.Need-mul-t8
-mul-t8 c = fits (times (times two (g c) tt) (h c) tt)
+mul-t8 c = fits (times two (plus (times (times (g c) (g c) tt) (h c) tt) (times (times (g c) (h c) tt) (h c) tt) tt) tt)
 
-add-t9 : tie.Need-add-t9
-add-t9 c = fits (plus (g c) (h c) tt)
+mul-t9 : tie.Need-mul-t9
+mul-t9 c = fits (times (g c) (d c) tt)
 
 mul-t10 : tie.Need-mul-t10
-mul-t10 c = fits (times (times (times two (g c) tt) (h c) tt) (plus (g c) (h c) tt) tt)
+mul-t10 c = fits (times (h c) (e c) tt)
 
-mul-t11 : tie.Need-mul-t11
-mul-t11 c = fits (times (g c) (h c) tt)
+sub-t11 : tie.Need-sub-t11
+sub-t11 c = fits (minus (times (g c) (d c) tt) (times (h c) (e c) tt) tt)
 
-mul-t12 : tie.Need-mul-t12
-mul-t12 c = fits (times (times (g c) (h c) tt) (h c) tt)
-
-mul-t13 : tie.Need-mul-t13
-mul-t13 c = fits (times (g c) (d c) tt)
-
-mul-t14 : tie.Need-mul-t14
-mul-t14 c = fits (times (h c) (e c) tt)
-
-sub-t15 : tie.Need-sub-t15
-sub-t15 c = fits (minus (times (g c) (d c) tt) (times (h c) (e c) tt) tt)
+-- 01: "In each row the outer factors add up to half of the middle one"
+middle-is : (g h : ℤ) → pos 2 *ℤ (g *ℤ g *ℤ h +ℤ g *ℤ h *ℤ h) ≡ pos 2 *ℤ g *ℤ h *ℤ (g +ℤ h)
+middle-is = solve 2 (λ g h. # 2 ⊗ (g ⊗ g ⊗ h ⊕ g ⊗ h ⊗ h) ≋ # 2 ⊗ g ⊗ h ⊗ (g ⊕ h)) tt
 
 returns : tie.Need-returns
 unfolding innerRow
 returns c =
     let a = natAbs (c .args .g) in let b = natAbs (c .args .h) in
+    let before = times (times (g c) (g c) tt) (h c) tt in let after = times (times (g c) (h c) tt) (h c) tt in
     row-made (innerRow 2 1 a b (c .args .d) (c .args .e))
-    (times (times (g c) (g c) tt) (h c) tt)
-    (times (times (times two (g c) tt) (h c) tt) (plus (g c) (h c) tt) tt)
-    (times (times (g c) (h c) tt) (h c) tt)
+    before
+    (rw (middle-is (pos a) (pos b)) at (times two (plus before after tt) tt))
+    after
     (once (minus (times (g c) (d c) tt) (times (h c) (e c) tt) tt))
     (mul-pos (mul-pos (mul-pos (omega arith) (leg-some (c .pre .0))) (leg-some (c .pre .1))) (omega (arith, leg-some (c .pre .0)))) tt tt tt tt
 
 pub inner-spec : {M : Type 1} → statement M
-inner-spec = tie.close (tie.spec mul-t5 mul-t6 mul-t7 mul-t8 add-t9 mul-t10 mul-t11 mul-t12 mul-t13 mul-t14 sub-t15 returns)
+inner-spec = tie.close (tie.spec mul-before mul-before-2 mul-after mul-after-2 add-t7 mul-t8 mul-t9 mul-t10 sub-t11 returns)
