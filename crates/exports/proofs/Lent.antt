@@ -1,13 +1,13 @@
 -- The runner that a step is lent as a slice (specs/Written): two numbers are a runner, and a shorter slice is adrift once the sheet is read.
 use mathlib.Core.Path.{_≡_, refl, sym, ap, _∙_}
 use mathlib.Core.Bool.{Bool, cond}
-use mathlib.Core.List.{List}
+use mathlib.Core.List.{List, []}
 use Prim.Native.Nat.{ℕ, _≤_, _<_}
 use borrow.Author.Tests.{le-leb, lt-leb}
 use lib.ListN.{length, getD}
 use Rattle.ends.specs.declared.EndKind.{EndKind}
 use Rattle.sheet.specs.Answers.{Told, told, numberOf, refused}
-use Rattle.sheet.specs.Reading.{readSheet}
+use Rattle.sheet.specs.Reading.{readBy, readSheet}
 use Rattle.sheet.specs.declared.Refusal.{Refusal}
 use Rattle.sheet.specs.declared.Refusal.the-variants.{Adrift}
 use Rattle.sheet.specs.declared.Reading.{Reading}
@@ -18,6 +18,11 @@ use Rattle.runner.specs.Ticks.{runner}
 use Rattle.runner.specs.Steps.{stepped}
 use Rattle.exports.specs.Written.{writtenUnsigned, steppedSlice}
 use Rattle.exports.proofs.Tell.{kept-unsigned}
+
+-- tried: no sheet and no runner is number 1, torn, before it is 11
+sheet-first : steppedSlice [] [] .number ≡ 1
+unfolding steppedSlice readBy
+sheet-first = refl
 
 module _ (s r : List ℕ) where
   abbrev lent : Bool → Told

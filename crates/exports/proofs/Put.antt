@@ -10,6 +10,7 @@ use borrow.Author.Tests.{le-leb, lt-leb, ne-eqb}
 use Rattle.sheet.proofs.Told.{number-positive}
 use Rattle.sheet.specs.Answers.{refused}
 use Rattle.sheet.specs.declared.Refusal.{Refusal}
+use Rattle.sheet.specs.declared.Refusal.the-variants.{Adrift}
 use Rattle.exports.specs.Written.{put, written, writtenUnsigned}
 
 module _ {A : Type 0} where
@@ -41,7 +42,11 @@ three-elements (x ∷ y ∷ []) h = absurd (omega arith)
 three-elements (x ∷ y ∷ z ∷ []) h = refl
 three-elements (x ∷ y ∷ z ∷ w ∷ l) h = absurd (omega arith)
 
--- a refusal writes nothing
+-- a refusal writes nothing: tried, and for every one
+kept-tried : written (refused Adrift) (pos 1 ∷ pos 2 ∷ pos 3 ∷ []) ≡ pos 1 ∷ pos 2 ∷ pos 3 ∷ []
+unfolding written
+kept-tried = refl
+
 module _ (r : Refusal) where
   not-zero : refused r .number ≡ 0 → ⊥
   not-zero e = omega (arith, number-positive r)

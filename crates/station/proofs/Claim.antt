@@ -53,6 +53,10 @@ fits-leg s r fits = go (standing s r fits)
     go (on-leg l u) = (l, omega arith)
     go (at-end o l u) = (omega arith, omega arith)
 
+-- the first part, as `omega` takes it
+leg-fits : (s : List ℕ) (r : Runner) → adrift s r ≡ false → r .leg < legs s
+leg-fits s r fits = fits-leg s r fits .0
+
 module _ (s : List ℕ) (accepted : Accepted s) where
   -- past the reader's tests and number 9
   past-shelf : (list : List ℤ) → 3 * points s ≤ length list → (rest : Told) → passOn (readSheet s) (guard (short s (length list)) Shelf rest) ≡ rest
@@ -96,23 +100,22 @@ module _ (s : List ℕ) (accepted : Accepted s) where
       near u h axis k e exact = subst⁻¹ (λ (x : ℤ). Near (e .denominator) (valueAt (e .cubic i) u) x) (place-is u axis k)
           (position-near (course s axis) (course-in-bounds s accepted axis k) e exact i u l h)
 
-    answered : (r : Runner) → adrift s r ≡ false → (answer : Told) → answer ≡ guard (bendOutside s list (r .leg)) Bend (placed s list r) → Answered s list r answer
-    answered r fits answer e =
-        let (l, u) = fits-leg s r fits in
-        record {
-          place = e ∙ ap (λ (b : Bool). guard b Bend (placed s list r)) (bends-inside (r .leg) l);
-          near = near (r .leg) l (r .offset) u;
-        }
+    answered : (r : Runner) → r .leg < legs s → adrift s r ≡ false → (answer : Told)
+        → answer ≡ guard (bendOutside s list (r .leg)) Bend (placed s list r) → Answered s list r answer
+    answered r l fits answer e = record {
+      place = e ∙ ap (λ (b : Bool). guard b Bend (placed s list r)) (bends-inside (r .leg) l);
+      near = near (r .leg) l (r .offset) (fits-leg s r fits .1);
+    }
 
-    by-runner : (r : Runner) → adrift s r ≡ false → Answered s list r (placeOfRunner s list r)
+    by-runner : (r : Runner) → r .leg < legs s → adrift s r ≡ false → Answered s list r (placeOfRunner s list r)
     unfolding placeOfRunner
-    by-runner r fits = answered r fits (placeOfRunner s list r)
+    by-runner r l fits = answered r l fits (placeOfRunner s list r)
         (past-shelf list (own-long s list own) _ ∙ ap (λ (b : Bool). guard b Adrift (guard (bendOutside s list (r .leg)) Bend (placed s list r))) fits)
 
     -- a tick that the course answers is not past its end, and stands at a runner that fits
     by-tick : (t : ℕ) → past s t ≡ false → adrift s (spotAt s t) ≡ false → Answered s list (spotAt s t) (placeAtTick s list t)
     unfolding placeAtTick
-    by-tick t now fits = answered (spotAt s t) fits (placeAtTick s list t)
+    by-tick t now fits = answered (spotAt s t) (leg-fits s (spotAt s t) fits) fits (placeAtTick s list t)
         (past-shelf list (own-long s list own) _ ∙ ap (λ (b : Bool). guard b Past (guard (bendOutside s list (spotAt s t .leg)) Bend (placed s list (spotAt s t)))) now)
 
   open-tick : isOpen (kind s) ≡ true → (t : ℕ) → t ≤ ticks s → (past s t ≡ false) × (adrift s (spotAt s t) ≡ false)
@@ -120,15 +123,15 @@ module _ (s : List ℕ) (accepted : Accepted s) where
 
   -- the ticks that 01 names
   answerable : (k : EndKind) → kind s ≡ k → (t : ℕ) → Answers k (ticks s) t → (past s t ≡ false) × (adrift s (spotAt s t) ≡ false)
-  answerable Free e t h = open-tick (ap isOpen e) t h
-  answerable Held e t h = open-tick (ap isOpen e) t h
+  answerable Free e t h = open-tick (ap isOpen e) t (omega arith)
+  answerable Held e t h = open-tick (ap isOpen e) t (omega arith)
   answerable Closed e t h = (ap (λ (k : EndKind). isOpen k && ltb (ticks s) t) e, tick-stands s accepted t .1 e .fits)
 
 pub claim : Claim
 claim s accepted = record {
   exists = λ axis h. spline-exists (course s axis) (course-in-bounds s accepted axis h);
   same = λ axis h. one-curve (course s axis) (course-in-bounds s accepted axis h);
-  laying = λ list long. let e = done-answer s (length list) accepted long in (e, done-list s list e);
+  laying = λ list long. let e = done-answer s (length list) accepted (omega arith) in (e, done-list s list e);
   by-tick = λ list own t h. let (now, fits) = answerable s accepted (kind s) refl t h in by-tick s accepted list own t now fits;
-  by-runner = by-runner s accepted;
+  by-runner = λ list own r fits. by-runner s accepted list own r (omega (arith, leg-fits)) fits;
 }

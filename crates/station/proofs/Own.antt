@@ -62,15 +62,20 @@ module _ (s : List ℕ) where
   unfolding allBends
   length-allBends = length-three (points s) (λ axis. bends (course s axis)) part-length
 
+  -- a list with the station's own numbers is long enough ..
+  pub own-long : (list : List ℤ) → Own s list → 3 * points s ≤ length list
+  own-long list o = omega (
+    arith,
+    simp length-take at (ap length (o .holds)),
+    simp length-append at (ap length (done-list s (o .lent) (o .not-refused))),
+    length-allBends,
+  )
+
   own-first : (list : List ℤ) → Own s list → take (3 * points s) list ≡ allBends s
   own-first list o =
       o .holds
       ∙ ap (take (3 * points s)) (done-list s (o .lent) (o .not-refused))
       ∙ take-at (allBends s) (drop (3 * points s) (o .lent)) (3 * points s) length-allBends
-
-  -- so the list is long enough ..
-  pub own-long : (list : List ℤ) → Own s list → 3 * points s ≤ length list
-  own-long list o = omega (arith, ap length (own-first list o), length-allBends, length-take (3 * points s) list)
 
   -- .. and the number at axis × N + i is the axis' own
   pub own-bend : (list : List ℤ) → Own s list → (i : ℕ) → i < points s → (axis : ℕ) → axis < 3 → bendOf s list axis i ≡ at (bends (course s axis)) i

@@ -6,11 +6,11 @@ use Prim.Native.Nat.{ℕ, zero, suc, _+_, _*_, _-_, _≤_, _<_}
 use native.Mathlib.Omega.{arith}
 use native.Mathlib.Nat.{mul-le-mul-left, mul-le-mul-right, mul-pos, le-of-mul-le-mul-left}
 use lib.IntN.{ℤ, pos, natAbs, _+ℤ_, _-ℤ_, _*ℤ_}
-use Rattle.integers.proofs.Ring.{_⊕_, _⊖_, _⊗_, ⊝_, #_, _≋_, solve, eq-of-sub}
+use Rattle.integers.proofs.Ring.{_⊕_, _⊖_, _⊗_, ⊝_, #_, eq-of-sub}
 use Rattle.integers.proofs.Linear.{_≐_, _⊢_≗_with_, lin}
 use Rattle.integers.proofs.Order.{abs-add, abs-sub, abs-mul, abs-zero}
 use Rattle.integers.proofs.Extremes.{Extreme, largest}
-use Rattle.systems.specs.Rows.{Row, rowSum, Rows, Dominant}
+use Rattle.systems.specs.Rows.{Row, rowSum, Rows, Dominant, Solves}
 use Rattle.systems.specs.Theorems.{SolutionBounded, Unique}
 
 -- a row in sizes: the unknown's part is at most the neighbours' parts and the right side together
@@ -80,13 +80,18 @@ solution-bounded k R d D x B s small = sizes-bounded k R d (λ i. natAbs (x i)) 
     ))
     small
 
--- DESIGN 3.1: "With r = 0 and B = 0 it is uniqueness": the difference of two solutions, cross multiplied, is a solution with right sides 0
+-- DESIGN 3.1: "With r = 0 and B = 0 it is uniqueness": the difference of two solutions, multiplied so that their right sides agree, is one with right sides 0
+module _ (k : ℕ) (R : Rows) (d : Dominant k R) (D E : ℕ) (x y : ℕ → ℤ) (s : Solves R D x) (t : Solves R E y) where
+  cross : (a b : ℕ) → a * D ≡ b * E → (i : ℕ) → i < R .size → pos a *ℤ x i ≡ pos b *ℤ y i
+  cross a b e i h = eq-of-sub (pos a *ℤ x i) (pos b *ℤ y i) (abs-zero (pos a *ℤ x i -ℤ pos b *ℤ y i) (none i h))
+    where
+      none : (j : ℕ) → j < R .size → natAbs (pos a *ℤ x j -ℤ pos b *ℤ y j) ≤ 0
+      none = sizes-bounded k R d (λ j. natAbs (pos a *ℤ x j -ℤ pos b *ℤ y j)) (λ j. 0) 0
+          (λ j g. difference-sizes (R .row j) (pos a) (pos b) (x (R .prev j)) (x j) (x (R .next j)) (y (R .prev j)) (y j) (y (R .next j))
+          (pos D *ℤ R .row j .right) (pos E *ℤ R .row j .right) (pos 0) (s j g) (t j g)
+          (lin 5 (λ a b D E r. a ⊗ D ≐ b ⊗ E ∷ [] ⊢ a ⊗ (D ⊗ r) ⊖ b ⊗ (E ⊗ r) ≗ # 0 with r ∷ []) tt
+          (pos a) (pos b) (pos D) (pos E) (R .row j .right) (ap pos e)))
+          (λ j g. omega arith)
+
 pub unique : Unique
-unique k R d D E x y s t i h = eq-of-sub (pos E *ℤ x i) (pos D *ℤ y i) (abs-zero (pos E *ℤ x i -ℤ pos D *ℤ y i) (none i h))
-  where
-    none : (j : ℕ) → j < R .size → natAbs (pos E *ℤ x j -ℤ pos D *ℤ y j) ≤ 0
-    none = sizes-bounded k R d (λ j. natAbs (pos E *ℤ x j -ℤ pos D *ℤ y j)) (λ j. 0) 0
-        (λ j g. difference-sizes (R .row j) (pos E) (pos D) (x (R .prev j)) (x j) (x (R .next j)) (y (R .prev j)) (y j) (y (R .next j))
-        (pos D *ℤ R .row j .right) (pos E *ℤ R .row j .right) (pos 0) (s j g) (t j g)
-        (solve 3 (λ D E r. E ⊗ (D ⊗ r) ⊖ D ⊗ (E ⊗ r) ≋ # 0) tt (pos D) (pos E) (R .row j .right)))
-        (λ j g. omega arith)
+unique k R d D E x y s t i h = cross k R d D E x y s t _ _ (omega arith) i h

@@ -1,11 +1,25 @@
 -- `rounding::goes_down` meets its contract: the code compares r with half of -d, rounded up.
-use mathlib.Core.Path.{sym, ap, _∙_}
+use mathlib.Core.Path.{refl, sym, ap, _∙_}
 use mathlib.Core.Bool.{cond}
 use native.Mathlib.Omega.{arith}
-use lib.IntN.{pos}
+use borrow.Author.Needs.{needs}
+use lib.IntN.{pos, negsuc}
 use Rattle.rounding.proofs.Half.{made-fits, serves-down}
 use Rattle.rounding.proofs.goes_down.Statement.{statement}
 use Rattle.rounding.proofs.goes_down.Tie as tie
+
+-- tried at -1 of 2, a half, which comes to the second arm, and at -2 of 3, which comes to the first
+half-tried : tie.Else1
+half-tried = record {
+  before = record { args = record { r = negsuc 0; d = pos 2 }; good = search needs; fits = search needs; pre = search needs };
+  if1 = record { left = refl };
+}
+
+more-tried : tie.Then1
+more-tried = record {
+  before = record { args = record { r = negsuc 1; d = pos 3 }; good = search needs; fits = search needs; pre = search needs };
+  if1 = record { taken = refl };
+}
 
 div-if1 : tie.Need-div-if1
 div-if1 c = (omega arith, made-fits (c .args .d) (c .pre) (c .fits .d))

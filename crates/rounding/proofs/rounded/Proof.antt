@@ -2,7 +2,7 @@
 use mathlib.Core.Path.{_≡_, refl, _∙_}
 use mathlib.Core.Bool.{cond}
 use borrow.Author.Needs.{needs}
-use lib.IntN.{ℤ, pos, negℤ, natAbs, _+ℤ_, _-ℤ_, _*ℤ_}
+use lib.IntN.{ℤ, pos, negsuc, negℤ, natAbs, _+ℤ_, _-ℤ_, _*ℤ_}
 use lib.Signed.{ltZ, quotZ, remZ, mag-rem}
 use mir.Syntax.{w64}
 use mir.Val.{SFits}
@@ -12,6 +12,16 @@ use Rattle.rounding.specs.Rounded.{rounded}
 use Rattle.rounding.proofs.Remainder.{read, divisor-bits, fits-quot, step-rounds, sum-rounds, rounded-fits}
 use Rattle.rounding.proofs.rounded.Statement.{statement}
 use Rattle.rounding.proofs.rounded.Tie as tie
+
+-- tried at -11 of 4, -2.75: the quotient is -2, the remainder -3, for which the tests give 0 and 1
+tried : tie.After-goes-down
+tried = record {
+  before = record {
+    before = record { args = record { n = negsuc 10; d = pos 4 }; good = search needs; fits = search needs; pre = search needs };
+    goes-up = record { lifetimes = tt; result = pos 0; last = search needs; ok = search needs; kept = search needs; ensures = refl };
+  };
+  goes-down = record { lifetimes = tt; result = pos 1; last = search needs; ok = search needs; kept = search needs; ensures = refl };
+}
 
 module _ (s : tie.Start) where
   abbrev n : ℤ
