@@ -8,4 +8,5 @@ pub mod Sums
 pub mod Extremes
 pub mod Products
 pub mod Machine
+pub mod Made
 pub mod Uses

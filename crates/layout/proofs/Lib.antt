@@ -1,5 +1,4 @@
--- Why laying out holds: first what the code's own arithmetic makes, then rows, passes and parts; last the theorems.
-pub mod Made
+-- Why laying out holds: rows as the code makes them, then passes and parts; last the theorems.
 pub mod Given
 pub mod Neighbours
 mod RowMade

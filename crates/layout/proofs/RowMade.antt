@@ -11,7 +11,7 @@ use Rattle.integers.proofs.Ring.{solve, _≋_, _⊗_, #_}
 use Rattle.systems.specs.Rows as systems
 use Rattle.layout.specs.Inside.{codeRow, Leg, Sized}
 use Rattle.layout.specs.declared.row.Row.{Row}
-use Rattle.layout.proofs.Made.{read, Made, read-back, small, given}
+use Rattle.integers.proofs.Made.{read, Made, read-back, small, given}
 
 module _ {h : ℤ} (l : Leg h) where
   leg-pos : h ≡ pos (natAbs h)

@@ -22,7 +22,7 @@ use Rattle.spline.proofs.Bends.{bends-bounded}
 use Rattle.layout.specs.Course.{course}
 use Rattle.layout.specs.Inside.{OnSheet, HasRow, Inner, Reached, Small, AllSmall, skipped, codeRow}
 use Rattle.layout.specs.declared.row.Row as code
-use Rattle.layout.proofs.Made.{read}
+use Rattle.integers.proofs.Made.{read}
 use Rattle.layout.proofs.Given.{two-points, in-bounds}
 use Rattle.layout.proofs.Passes.{passes-length}
 use Rattle.layout.proofs.Rows.{told-kind, row-present, free-start-row, free-end-row}

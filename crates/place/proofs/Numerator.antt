@@ -9,7 +9,7 @@ use Rattle.integers.proofs.Ring.{_⊕_, _⊖_, #_}
 use Rattle.integers.proofs.Order.{abs-add, abs-mul-le}
 use Rattle.integers.proofs.Linear.{lin, _≐_, _⊢_≗_with_}
 use Rattle.spline.specs.Position.{numerator}
-use Rattle.layout.proofs.Made.{read, Made, given, times, plus}
+use Rattle.integers.proofs.Made.{read, Made, given, times, plus}
 use Rattle.place.specs.Asked.{OnLeg}
 
 -- a difference of naturals that is none below 0

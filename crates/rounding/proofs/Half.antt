@@ -15,7 +15,8 @@ use Rattle.integers.proofs.Ring.{_⊕_, _⊖_, _⊗_, ⊝_, #_}
 use Rattle.integers.proofs.Order.{pos-le, le-pos, abs-mul, abs-neg}
 use Rattle.integers.proofs.Linear.{lin, _≼_, _≺_, ∣_∣≼_, _⊢_by_, _⊢_times_by_, hyp, low, nat, _⊞_, _⊠_}
 use Rattle.integers.proofs.Machine.{fits-abs, back, fits-back}
-use Rattle.rounding.proofs.Remainder.{read, positive, quot-small}
+use Rattle.integers.proofs.Made.{read}
+use Rattle.rounding.proofs.Remainder.{positive, quot-small}
 
 -- ---- c is x / 2 rounded up
 record HalfUp (x c : ℤ) : Type 0 where

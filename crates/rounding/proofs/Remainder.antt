@@ -9,7 +9,7 @@ use native.Mathlib.Omega.{arith}
 use lib.IntN.{ℤ, pos, negsuc, negℤ, natAbs, _+ℤ_, _-ℤ_, _*ℤ_}
 use lib.Signed.{mag, ltZ, quotZ, remZ, _≤ℤ_, _<ℤ_, ltZ-yes, ltZ-no, clashℤ, natAbs-le}
 use mir.Syntax.{w64}
-use mir.Val.{SFits, toZ, ofZ}
+use mir.Val.{SFits, ofZ}
 use mir.ValLaws.{sfits-le}
 use Rattle.integers.proofs.Ring.{solve, _≋_, _⊕_, _⊗_, ⊝_, #_}
 use Rattle.integers.proofs.Order.{by-test, pos-le, le-pos, abs-neg, le-or-lt}
@@ -17,10 +17,6 @@ use Rattle.integers.proofs.Linear.{lin, _≐_, _≼_, _≺_, ∣_∣≼_, _⊢_
 use Rattle.integers.proofs.Machine.{fits-abs, fits-back}
 use Rattle.rounding.specs.Rounded.{rounded}
 use Rattle.rounding.proofs.Laws.{rounded-low, rounded-high, rounded-is, rounded-exact, rounded-size}
-
--- what the machine reads back of a number that it has made
-abbrev pub read : ℤ → ℤ
-read z = toZ w64 (ofZ w64 z)
 
 -- what the two tests of the remainder add up to
 abbrev pub step : ℤ → ℤ → ℤ

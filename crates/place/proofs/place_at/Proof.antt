@@ -6,7 +6,7 @@ use Prim.Native.Nat.{ℕ, _+_, _*_, _<_}
 use native.Mathlib.Omega.{arith}
 use borrow.Author.Needs.{needs}
 use lib.IntN.{ℤ}
-use Rattle.layout.proofs.Made.{passed}
+use Rattle.integers.proofs.Made.{passed}
 use Rattle.sheet.specs.Bytes.{anyBelow}
 use Rattle.systems.specs.Passes.{at}
 use Rattle.runner.specs.declared.Runner.{Runner}

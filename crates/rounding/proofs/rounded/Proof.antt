@@ -9,7 +9,8 @@ use mir.Val.{SFits}
 use mir.ValLaws.{sfits-le}
 use Rattle.integers.proofs.Machine.{back, fits-back}
 use Rattle.rounding.specs.Rounded.{rounded}
-use Rattle.rounding.proofs.Remainder.{read, divisor-bits, fits-quot, step-rounds, sum-rounds, rounded-fits}
+use Rattle.integers.proofs.Made.{read}
+use Rattle.rounding.proofs.Remainder.{divisor-bits, fits-quot, step-rounds, sum-rounds, rounded-fits}
 use Rattle.rounding.proofs.rounded.Statement.{statement}
 use Rattle.rounding.proofs.rounded.Tie as tie
 

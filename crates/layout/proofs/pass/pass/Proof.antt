@@ -17,7 +17,7 @@ use Rattle.spline.specs.Spline.{Course, prev, rows}
 use Rattle.layout.specs.Course.{course}
 use Rattle.layout.specs.Inside.{skipped, Small, AllSmall}
 use Rattle.layout.proofs.Given.{two-points, few-points, prev-fits}
-use Rattle.layout.proofs.Made.{read, passed}
+use Rattle.integers.proofs.Made.{read, passed}
 use Rattle.layout.proofs.Neighbours.{prev-later, next-inner}
 use Rattle.layout.proofs.Sweep.{Through, skipped-few, between, kept, unmoved, at-set, turn-renews, start-length}
 use Rattle.layout.proofs.Sweep.{through-start, through-small, through-turn, through-end}

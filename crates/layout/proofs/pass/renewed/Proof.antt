@@ -4,7 +4,7 @@ use native.Mathlib.Omega.{arith}
 use borrow.Author.Needs.{needs}
 use lib.IntN.{pos, natAbs}
 use Rattle.rounding.specs.Rounded.{rounded}
-use Rattle.layout.proofs.Made.{Made, fits, read-back, given, passed, times, minus}
+use Rattle.integers.proofs.Made.{Made, fits, read-back, given, passed, times, minus}
 use Rattle.layout.proofs.pass.renewed.Statement.{statement}
 use Rattle.layout.proofs.pass.renewed.Tie as tie
 

@@ -12,7 +12,7 @@ use Rattle.spline.specs.Spline.{Course}
 use Rattle.layout.specs.Course.{course}
 use Rattle.layout.specs.Inside.{Small}
 use Rattle.layout.proofs.Given.{few-points}
-use Rattle.layout.proofs.Made.{read, passed}
+use Rattle.integers.proofs.Made.{read, passed}
 use Rattle.layout.proofs.Sweep.{kept, unmoved, turn-renews}
 use Rattle.layout.proofs.pass.turn.Statement.{statement}
 use Rattle.layout.proofs.pass.turn.Tie as tie

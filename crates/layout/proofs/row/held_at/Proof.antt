@@ -11,7 +11,7 @@ use Rattle.spline.specs.Spline.{Course, stepAfter, stepBefore, heldStartRow, he
 use Rattle.layout.specs.Course.{course}
 use Rattle.layout.specs.Inside.{codeRow}
 use Rattle.layout.proofs.Given.{same-legs, two-points, slope-behind}
-use Rattle.layout.proofs.Made.{passed}
+use Rattle.integers.proofs.Made.{passed}
 use Rattle.layout.proofs.Neighbours.{prev-later, next-inner}
 use Rattle.layout.proofs.Rows.{held-start-row, held-end-row}
 use Rattle.layout.proofs.row.held_at.Statement.{statement}

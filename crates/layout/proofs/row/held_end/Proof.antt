@@ -4,7 +4,7 @@ use native.Mathlib.Nat.{mul-pos}
 use native.Mathlib.Omega.{arith}
 use lib.IntN.{pos, natAbs}
 use Rattle.spline.specs.Spline.{heldEndRow}
-use Rattle.layout.proofs.Made.{Made, given, fits, times, minus}
+use Rattle.integers.proofs.Made.{Made, given, fits, times, minus}
 use Rattle.layout.proofs.RowMade.{leg-some, leg-made, zero, two, once, row-made}
 use Rattle.layout.proofs.row.held_end.Statement.{statement}
 use Rattle.layout.proofs.row.held_end.Tie as tie

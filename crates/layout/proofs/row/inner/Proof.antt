@@ -5,7 +5,7 @@ use native.Mathlib.Omega.{arith}
 use lib.IntN.{ℤ, pos, natAbs, _+ℤ_, _*ℤ_}
 use Rattle.integers.proofs.Ring.{solve, _≋_, _⊕_, _⊗_, #_}
 use Rattle.spline.specs.Spline.{innerRow}
-use Rattle.layout.proofs.Made.{Made, given, fits, times, plus, minus}
+use Rattle.integers.proofs.Made.{Made, given, fits, times, plus, minus}
 use Rattle.layout.proofs.RowMade.{leg-some, leg-made, two, once, row-made}
 use Rattle.layout.proofs.row.inner.Statement.{statement}
 use Rattle.layout.proofs.row.inner.Tie as tie

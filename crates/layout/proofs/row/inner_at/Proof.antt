@@ -9,7 +9,7 @@ use Rattle.spline.specs.Spline.{Course, next, prev, stepAfter, stepBefore, inne
 use Rattle.layout.specs.Course.{course}
 use Rattle.layout.specs.Inside.{codeRow}
 use Rattle.layout.proofs.Given.{same-legs, few-legs}
-use Rattle.layout.proofs.Made.{passed}
+use Rattle.integers.proofs.Made.{passed}
 use Rattle.layout.proofs.Rows.{shared-legs, inner-row}
 use Rattle.layout.proofs.row.inner_at.Statement.{statement}
 use Rattle.layout.proofs.row.inner_at.Tie as tie

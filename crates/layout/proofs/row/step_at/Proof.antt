@@ -2,7 +2,7 @@
 use borrow.Author.Needs.{needs}
 use lib.IntN.{_-ℤ_}
 use Rattle.sheet.specs.Fields.{waypoint}
-use Rattle.layout.proofs.Made.{read, Made, fits, read-back, small, returned, minus}
+use Rattle.integers.proofs.Made.{read, Made, fits, read-back, small, returned, minus}
 use Rattle.layout.proofs.row.step_at.Statement.{statement}
 use Rattle.layout.proofs.row.step_at.Tie as tie
 

@@ -7,7 +7,7 @@ use lib.ListN.{length}
 use Rattle.sheet.specs.Bytes.{be32, signed32}
 use Rattle.sheet.specs.Fields.{waypoint}
 use Rattle.layout.proofs.Given.{same-legs, sheet-size, two-points, value-small}
-use Rattle.layout.proofs.Made.{read, passed}
+use Rattle.integers.proofs.Made.{read, passed}
 use Rattle.layout.proofs.row.value_at.Statement.{statement}
 use Rattle.layout.proofs.row.value_at.Tie as tie
 

@@ -4,7 +4,7 @@ use mathlib.Core.List.{List}
 use Prim.Native.Nat.{ℕ, _+_, _*_, _<_}
 use native.Mathlib.Omega.{arith}
 use lib.IntN.{ℤ, natAbs}
-use Rattle.layout.proofs.Made.{read, passed}
+use Rattle.integers.proofs.Made.{read, passed}
 use Rattle.sheet.specs.Fields.{leg, waypoint}
 use Rattle.spline.specs.Position.{position}
 use Rattle.systems.specs.Passes.{at}

@@ -2,7 +2,7 @@
 use mathlib.Core.Path.{ap, _∙_}
 use Prim.Native.Nat.{_+_, _*_}
 use borrow.Author.Needs.{needs}
-use Rattle.layout.proofs.Made.{passed}
+use Rattle.integers.proofs.Made.{passed}
 use Rattle.sheet.specs.Bytes.{be32, signed32}
 use Rattle.place.proofs.axis.waypoint_on.Statement.{statement}
 use Rattle.place.proofs.axis.waypoint_on.Tie as tie

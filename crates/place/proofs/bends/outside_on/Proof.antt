@@ -2,7 +2,7 @@
 use mathlib.Core.Path.{ap, _∙_}
 use mathlib.Core.Bool.{_||_}
 use borrow.Author.Needs.{needs}
-use Rattle.layout.proofs.Made.{passed}
+use Rattle.integers.proofs.Made.{passed}
 use Rattle.place.specs.Places.{beyond}
 use Rattle.place.proofs.bends.outside_on.Statement.{statement}
 use Rattle.place.proofs.bends.outside_on.Tie as tie

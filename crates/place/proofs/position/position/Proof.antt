@@ -7,7 +7,7 @@ use lib.IntN.{natAbs}
 use Rattle.integers.proofs.Order.{pos-le}
 use Rattle.rounding.specs.Rounded.{rounded}
 use Rattle.spline.specs.Position.{position}
-use Rattle.layout.proofs.Made.{fits, read-back, passed, times, minus}
+use Rattle.integers.proofs.Made.{fits, read-back, passed, times, minus}
 use Rattle.place.proofs.Numerator.{scale, past, left, sum, rest, whole, start, end, start-bend, end-bend, ends, bends, bend, numerator-is}
 use Rattle.place.proofs.position.position.Statement.{statement}
 use Rattle.place.proofs.position.position.Tie as tie
