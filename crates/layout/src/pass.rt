@@ -43,7 +43,11 @@ fn turn(s: &[u8], kind: EndKind, n: usize, axis: usize, i: usize, z: &mut [i64])
 {
     let old = z[i];
     let left = z[row::before(i, n)];
-    let x = renewed(row::row_at(s, kind, n, axis, i), left, z[row::after(i, n)]);
+    let x = renewed(
+        row::row_at(s, kind, n, axis, i),
+        left,
+        z[sheet::end_of(n, i)],
+    );
     z[i] = x;
     x != old
 }

@@ -6,7 +6,7 @@ ghost use lib.IntN.{pos, natAbs, _-ℤ_};
 ghost use Rattle.ends.specs.declared.EndKind.the-variants.{Held};
 ghost use Rattle.sheet.specs.Fields.{legs, leg, waypoint, slopeBytes};
 ghost use Rattle.sheet.specs.Theorems.{Bounds};
-ghost use Rattle.spline.specs.Spline.{Course, next, prev, innerRow, heldStartRow, heldEndRow, rowOf};
+ghost use Rattle.spline.specs.Spline.{Course, prev, innerRow, heldStartRow, heldEndRow, rowOf};
 ghost use Rattle.layout.specs.Course.{course};
 ghost use Rattle.layout.specs.Inside.{OnSheet, HasRow, Inner, codeRow, Sized, Leg};
 
@@ -23,7 +23,7 @@ fn leg_at(s: &[u8], i: usize) -> i64
     requires { ⌜ Bounds (now s) × (i < legs (now s)) ⌝ }
     ensures { λ r. ⌜ (r ≡ pos (leg (now (s .entry)) i)) × Leg r ⌝ }
 {
-    sheet::read16(s, 8 + 2 * i) as i64
+    sheet::leg_length(s, i) as i64
 }
 
 // The value at waypoint i; past the last waypoint a held course's slopes, that of the start and that of the end.
@@ -31,7 +31,7 @@ fn value_at(s: &[u8], kind: EndKind, n: usize, axis: usize, i: usize) -> i64
     requires { ⌜ OnSheet (now s) kind n axis × (12 * i + 12 ≤ 12 * n + slopeBytes kind) ⌝ }
     ensures { λ r. ⌜ (r ≡ waypoint (now (s .entry)) axis i) × (natAbs r ≤ 1_000_000) ⌝ }
 {
-    sheet::read_signed(s, 8 + 2 * ends::leg_count(kind, n) + 12 * i + 4 * axis)
+    sheet::waypoint_on(s, ends::leg_count(kind, n), axis, i)
 }
 
 // The value step from waypoint i to waypoint j.
@@ -48,14 +48,6 @@ pub fn before(i: usize, n: usize) -> usize
     ensures { λ r. ⌜ (r < n) × ((c : Course) → c .points ≡ n → r ≡ prev c i) ⌝ }
 {
     if i == 0 { n - 1 } else { i - 1 }
-}
-
-// The waypoint after i, "indices taken round".
-pub fn after(i: usize, n: usize) -> usize
-    requires { ⌜ i < n ⌝ }
-    ensures { λ r. ⌜ (r < n) × ((c : Course) → c .points ≡ n → r ≡ next c i) ⌝ }
-{
-    if i + 1 < n { i + 1 } else { 0 }
 }
 
 // 01: "g×g×h × s(i-1) + 2×g×h×(g+h) × s(i) + g×h×h × s(i+1) = g×d - h×e"; the middle factor by 01's "the outer factors add up to half of the middle one".
@@ -105,7 +97,7 @@ pub fn inner_at(s: &[u8], kind: EndKind, n: usize, axis: usize, i: usize) -> Row
     ensures { λ r. ⌜ (r ≡ codeRow (rowOf 2 1 kind (course (now (s .entry)) axis) i)) × Sized r ⌝ }
 {
     let p = before(i, n);
-    let d = step_at(s, kind, n, axis, i, after(i, n));
+    let d = step_at(s, kind, n, axis, i, sheet::end_of(n, i));
     let e = step_at(s, kind, n, axis, p, i);
     inner(leg_at(s, p), leg_at(s, i), d, e)
 }

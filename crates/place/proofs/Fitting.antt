@@ -14,8 +14,8 @@ use Rattle.sheet.proofs.Below.{or-left, or-right, any-none}
 use Rattle.sheet.proofs.ByKind.{legs-at-most}
 use Rattle.sheet.proofs.Laws.{accepted-bounds}
 use Rattle.sheet.proofs.Numbers.{within-size}
-use Rattle.spline.specs.Spline.{next}
 use Rattle.layout.specs.Course.{course}
+use Rattle.layout.proofs.Neighbours.{next-is}
 use Rattle.runner.specs.declared.Runner.{Runner}
 use Rattle.runner.proofs.Standing.{Standing, on-leg, at-end, standing}
 use Rattle.place.specs.Places.{endOf, bendOf, beyond, bendOutside}
@@ -44,8 +44,8 @@ module _ {s : List ℕ} {list : List ℤ} {n l : ℕ} {r : Runner} (f : Fitting 
   start-fits = omega (arith, leg-fits, f .is-points, legs-at-most (kind s) (points s))
 
   pub end-is : cond (eqb (suc start) n) 0 (suc start) ≡ endOf s start
-  unfolding next course
-  end-is = ap (λ m. cond (eqb (suc start) m) 0 (suc start)) (f .is-points)
+  unfolding course
+  end-is = next-is (course s 0) n start (f .is-points)
 
   pub list-room : 3 * n ≤ length list
   list-room = omega (arith, f .is-points, ltb-false (length list) (3 * points s) (f .room))

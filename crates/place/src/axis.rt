@@ -1,22 +1,14 @@
 // The place's number on one axis (01, Places), straight from the sheet's bytes and the lent list. The axis is a parameter: 0 is north, 1 east, 2 up.
 ghost use mathlib.Core.Path.{_≡_};
 ghost use mathlib.Core.Bool.{false};
-ghost use Prim.Native.Nat.{_+_, _*_, _≤_, _<_};
-ghost use lib.ListN.{length};
-ghost use Rattle.sheet.specs.Fields.{legs as legsOf, leg, waypoint};
+ghost use Prim.Native.Nat.{_<_};
+ghost use Rattle.sheet.specs.Fields.{leg};
 ghost use Rattle.place.specs.Asked.{Fitting};
 ghost use Rattle.place.specs.Places.{bendOutside, endOf, placeOn};
 use crate::bends::bend_of;
 use crate::position::position;
 use runner::Runner;
-
-// The number of waypoint i on an axis. 01: "Then N waypoints of 12 bytes: north, east, up, each signed, 32 bits".
-fn waypoint_on(s: &[u8], legs: usize, axis: usize, i: usize) -> i64
-    requires { ⌜ (legs ≡ legsOf (now s)) × (axis < 3) × (8 + 2 * legs + 12 * i + 12 ≤ length (now s)) ⌝ }
-    ensures { λ r. ⌜ r ≡ waypoint (now (s .entry)) axis i ⌝ }
-{
-    sheet::read_signed(s, 8 + 2 * legs + 12 * i + 4 * axis)
-}
+use sheet::waypoint_on;
 
 // The place's number on an axis, for a runner to which neither 11 nor 12 applies; `end` and `h` are the end of its leg and the leg's length, alike on all axes.
 pub fn place_on(

@@ -1,8 +1,8 @@
 // The bend numbers in the lent list (01, Laying out: "North fills the first N places of the lent list, east the next N, up the N after those"), and the numbers 9 and 12.
 ghost use mathlib.Core.Path.{_≡_};
-ghost use mathlib.Core.Bool.{cond, _||_};
-ghost use Prim.Native.Nat.{suc, _+_, _*_, _≤_, _<_};
-ghost use lib.Dec.{ltb, eqb};
+ghost use mathlib.Core.Bool.{_||_};
+ghost use Prim.Native.Nat.{_+_, _*_, _≤_, _<_};
+ghost use lib.Dec.{ltb};
 ghost use lib.ListN.{length};
 ghost use Rattle.sheet.specs.Bytes.{anyBelow};
 ghost use Rattle.systems.specs.Passes.{at};
@@ -22,14 +22,6 @@ pub fn bend_of(list: &[i64], points: usize, axis: usize, i: usize) -> i64
     ensures { λ r. ⌜ r ≡ at (now (list .entry)) (axis * points + i) ⌝ }
 {
     list[axis * points + i]
-}
-
-// The waypoint at the end of leg i: the next one, the first again after the last.
-pub fn end_of(points: usize, i: usize) -> usize
-    requires { ⌜ i < points ⌝ }
-    ensures { λ r. ⌜ (r ≡ cond (eqb (suc i) points) 0 (suc i)) × (r < points) ⌝ }
-{
-    if i + 1 == points { 0 } else { i + 1 }
 }
 
 // 12, of one number: "outside -2^37 to 2^37"

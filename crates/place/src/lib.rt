@@ -10,7 +10,6 @@ ghost use Rattle.place.specs.Places.{toldPlaced, placeHeld, placeAtTick,
 use answers::Outcome;
 use axis::place_on;
 use bends::bend_outside;
-use bends::end_of;
 use bends::is_short;
 use runner::Runner;
 use sheet::Reading;
@@ -45,11 +44,11 @@ fn place_at(s: &[u8], list: &[i64], points: usize, legs: usize, at: Runner) -> P
     ensures place { λ r. ⌜ r .place .at ≡ placeHeld (bendOrPlace (now (s .entry)) (now (list .entry)) at) ⌝ }
 {
     let start = at.leg as usize;
-    let end = end_of(points, start);
+    let end = sheet::end_of(points, start);
     if bend_outside(list, points, start, end) {
         return refused(Refusal::Bend);
     }
-    let h = runner::leg_length(s, start);
+    let h = sheet::leg_length(s, start);
     let north = place_on(s, list, points, legs, at, end, h, 0);
     let east = place_on(s, list, points, legs, at, end, h, 1);
     let up = place_on(s, list, points, legs, at, end, h, 2);

@@ -9,7 +9,6 @@ pub use steps::step;
 pub use steps::step_at;
 pub use steps::step_record;
 pub use ticks::is_past;
-pub use ticks::leg_length;
 pub use ticks::runner_at_tick;
 pub use ticks::spot_at;
 

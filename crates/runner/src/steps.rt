@@ -8,11 +8,11 @@ ghost use Rattle.runner.specs.Steps.{adrift, landed, moved, stepped, ste
 use crate::Runner;
 use crate::RunnerAnswer;
 use crate::ticks::is_open;
-use crate::ticks::leg_length;
 use answers::Outcome;
 use ends::EndKind;
 use sheet::Reading;
 use sheet::Refusal;
+use sheet::leg_length;
 
 // 13: "an open course's runner is already at its last tick".
 fn is_landed(s: &[u8], kind: EndKind, legs: usize, leg: u64, offset: u64) -> bool

@@ -42,14 +42,6 @@ fn reduced(kind: EndKind, ticks: u64, tick: u64) -> u64
     }
 }
 
-// The length of a leg in ticks.
-pub fn leg_length(s: &[u8], i: usize) -> u64
-    requires { ⌜ 10 + 2 * i ≤ length (now s) ⌝ }
-    ensures { λ r. ⌜ r ≡ leg (now (s .entry)) i ⌝ }
-{
-    sheet::read16(s, 8 + 2 * i)
-}
-
 // One walk along the legs that carries the ticks left over along. 01: "A tick on an inner waypoint belongs to the leg that starts there; the last tick of an
 // open course is the last leg at full offset."
 fn leg_at(s: &[u8], legs: usize, tick: u64) -> Runner
@@ -59,7 +51,7 @@ fn leg_at(s: &[u8], legs: usize, tick: u64) -> Runner
     let mut i = 0;
     let mut left = tick;
     while i + 1 < legs {
-        let h = leg_length(s, i);
+        let h = sheet::leg_length(s, i);
         if left < h {
             return Runner {
                 leg: i as u64,

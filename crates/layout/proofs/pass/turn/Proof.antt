@@ -13,6 +13,7 @@ use Rattle.layout.specs.Course.{course}
 use Rattle.layout.specs.Inside.{Small}
 use Rattle.layout.proofs.Given.{few-points}
 use Rattle.integers.proofs.Made.{read, passed}
+use Rattle.layout.proofs.Neighbours.{next-is}
 use Rattle.layout.proofs.Sweep.{kept, unmoved, turn-renews}
 use Rattle.layout.proofs.pass.turn.Statement.{statement}
 use Rattle.layout.proofs.pass.turn.Tie as tie
@@ -49,19 +50,19 @@ slice-copy-out-left c = omega (arith, c .before .before .before .pre .2 .size, c
 row-at-requires : tie.Need-row-at-requires
 row-at-requires c κs = let s = c .before .before .before .before in (s .pre .0, s .pre .1)
 
-after-requires : tie.Need-after-requires
-after-requires c κs = fits (c .before .before .before .before .before)
+end-of-requires : tie.Need-end-of-requires
+end-of-requires c κs = fits (c .before .before .before .before .before)
 
 mul-renewed : tie.Need-mul-renewed
-mul-renewed c = omega (arith, few-points (c .before .before .before .before .before .before .pre .0), c .after .ensures .0)
+mul-renewed c = omega (arith, few-points (c .before .before .before .before .before .before .pre .0), c .end-of .ensures .1)
 
 slice-copy-out-renewed : tie.Need-slice-copy-out-renewed
-slice-copy-out-renewed c = omega (arith, c .before .before .before .before .before .before .pre .2 .size, c .after .ensures .0)
+slice-copy-out-renewed c = omega (arith, c .before .before .before .before .before .before .pre .2 .size, c .end-of .ensures .1)
 
 renewed-requires : tie.Need-renewed-requires
 renewed-requires c κs =
     let q = c .before in let r = q .before in let p = r .before .before in let s = p .before .before .before in
-    (r .row-at .ensures .1, as-read s (p .before2 .result) (p .before2 .ensures .0), as-read s (q .after .result) (q .after .ensures .0))
+    (r .row-at .ensures .1, as-read s (p .before2 .result) (p .before2 .ensures .0), as-read s (q .end-of .result) (q .end-of .ensures .1))
 
 mul-x : tie.Need-mul-x
 mul-x c = let s = c .before .before .before .before .before .before .before .before in omega (arith, few-points (s .pre .0), fits s)
@@ -78,7 +79,7 @@ returns c =
     let q = c .before .before in let r = q .before in let p = r .before .before in let s = p .before .before .before in
     let small = s .pre .2 in let o = s .pre .0 in
     let left = kept small (p .before2 .result) (p .before2 .ensures .0) ∙ ap (at (z s)) (p .before2 .ensures .1 (c-of s) (sym (o .samePoints))) in
-    let right = kept small (q .after .result) (q .after .ensures .0) ∙ ap (at (z s)) (q .after .ensures .1 (c-of s) (sym (o .samePoints))) in
+    let right = kept small (q .end-of .result) (q .end-of .ensures .1) ∙ ap (at (z s)) (q .end-of .ensures .0 ∙ next-is (c-of s) (s .args .n) (s .args .i) (o .samePoints)) in
     let new = turn-renews o (z s) (s .args .i) (r .row-at .result) _ _ (r .row-at .ensures .0) left right in
     let x = c .renewed .result in (
       ap (set (z s) (s .args .i)) (passed (c .renewed .ensures) (c .renewed .ok) ∙ new),
@@ -95,7 +96,7 @@ turn-spec =
     mul-left
     slice-copy-out-left
     row-at-requires
-    after-requires
+    end-of-requires
     mul-renewed
     slice-copy-out-renewed
     renewed-requires

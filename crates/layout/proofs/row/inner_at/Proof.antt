@@ -10,6 +10,7 @@ use Rattle.layout.specs.Course.{course}
 use Rattle.layout.specs.Inside.{codeRow}
 use Rattle.layout.proofs.Given.{same-legs, few-legs}
 use Rattle.integers.proofs.Made.{passed}
+use Rattle.layout.proofs.Neighbours.{next-is}
 use Rattle.layout.proofs.Rows.{shared-legs, inner-row}
 use Rattle.layout.proofs.row.inner_at.Statement.{statement}
 use Rattle.layout.proofs.row.inner_at.Tie as tie
@@ -29,18 +30,18 @@ p-is : (c : tie.After-before2) → let s = c .before .before in c .before2 .resu
 unfolding course
 p-is c = let s = c .before .before in c .before2 .ensures .1 (course (s .args .s .now) (s .args .axis)) (sym (s .pre .0 .samePoints))
 
-q-is : (c : tie.After-after) → let s = c .before .before .before in c .after .result ≡ next (course (s .args .s .now) (s .args .axis)) (i s)
+q-is : (c : tie.After-end-of) → let s = c .before .before .before in c .end-of .result ≡ next (course (s .args .s .now) (s .args .axis)) (i s)
 unfolding course
-q-is c = let s = c .before .before .before in c .after .ensures .1 (course (s .args .s .now) (s .args .axis)) (sym (s .pre .0 .samePoints))
+q-is e = let s = e .before .before .before in e .end-of .ensures .0 ∙ next-is (c s) (s .args .n) (i s) (s .pre .0 .samePoints)
 
 before-requires : tie.Need-before-requires
 before-requires c κs = fits (c .before)
 
-after-requires : tie.Need-after-requires
-after-requires c κs = fits (c .before .before)
+end-of-requires : tie.Need-end-of-requires
+end-of-requires c κs = fits (c .before .before)
 
 step-at-requires : tie.Need-step-at-requires
-step-at-requires c κs = let s = c .before .before .before in (s .pre .0, fits s, c .after .ensures .0)
+step-at-requires c κs = let s = c .before .before .before in (s .pre .0, fits s, c .end-of .ensures .1)
 
 step-at-requires-2 : tie.Need-step-at-requires-2
 step-at-requires-2 c κs = let s = c .before .before .before .before in (s .pre .0, c .before .before .before2 .ensures .0, fits s)
@@ -74,4 +75,4 @@ returns c =
 pub inner-at-spec : {M : Type 1} → statement M
 inner-at-spec =
     tie.close
-    (tie.spec before-requires after-requires step-at-requires step-at-requires-2 leg-at-requires leg-at-requires-2 inner-requires returns)
+    (tie.spec before-requires end-of-requires step-at-requires step-at-requires-2 leg-at-requires leg-at-requires-2 inner-requires returns)

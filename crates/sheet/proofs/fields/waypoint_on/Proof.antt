@@ -1,11 +1,11 @@
--- `place::axis::waypoint_on` meets its contract: the byte index is the definition's, the number of legs being the sheet's.
+-- `sheet::fields::waypoint_on` meets its contract: the byte index is the definition's, the number of legs being the sheet's.
 use mathlib.Core.Path.{ap, _∙_}
 use Prim.Native.Nat.{_+_, _*_}
 use borrow.Author.Needs.{needs}
 use Rattle.integers.proofs.Made.{passed}
 use Rattle.sheet.specs.Bytes.{be32, signed32}
-use Rattle.place.proofs.axis.waypoint_on.Statement.{statement}
-use Rattle.place.proofs.axis.waypoint_on.Tie as tie
+use Rattle.sheet.proofs.fields.waypoint_on.Statement.{statement}
+use Rattle.sheet.proofs.fields.waypoint_on.Tie as tie
 
 mul-read-signed : tie.Need-mul-read-signed
 mul-read-signed c = search needs

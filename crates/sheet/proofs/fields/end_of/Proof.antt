@@ -1,10 +1,10 @@
--- `place::bends::end_of` meets its contract: the code's test is the definition's.
+-- `sheet::fields::end_of` meets its contract: the code's test is the definition's.
 use Prim.Native.Nat.{suc}
 use native.Mathlib.Omega.{arith}
 use borrow.Author.Needs.{needs}
 use borrow.Author.Tests.{eq-eqb, ne-eqb}
-use Rattle.place.proofs.bends.end_of.Statement.{statement}
-use Rattle.place.proofs.bends.end_of.Tie as tie
+use Rattle.sheet.proofs.fields.end_of.Statement.{statement}
+use Rattle.sheet.proofs.fields.end_of.Tie as tie
 
 add-if1 : tie.Need-add-if1
 add-if1 c = search needs
