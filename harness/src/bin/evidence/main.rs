@@ -14,13 +14,16 @@ use compare::Comparison;
 use harness::fence::Stand;
 use std::time::{Instant, SystemTime, UNIX_EPOCH};
 
+/// With so many steps the runner on foot goes through all ten years.
+pub const DEFAULT_STEPS: u64 = 20_000_000;
+
 pub struct Options {
     pub seed: u64,
     /// How many sheets are compared on every call.
     pub cases: u64,
     /// The first of them: `--first K --cases 1` tries case K of a seed again.
     pub first: u64,
-    /// How many steps are compared with the runner at the tick.
+    /// How many steps, nearly, are compared with the runner at the tick; those of the runner on foot are as many times more.
     pub steps: u64,
     /// Lend heap blocks in place of fenced memory (for valgrind).
     pub heap: bool,
@@ -40,7 +43,7 @@ fn main() {
         seed: number("seed", clock),
         cases: number("cases", 1_000_000),
         first: number("first", 0),
-        steps: number("steps", 20_000_000),
+        steps: number("steps", DEFAULT_STEPS),
         heap: std::env::args().any(|word| word == "--heap"),
     };
     let start = Instant::now();

@@ -1,7 +1,7 @@
-//! Ten years of ticks: places and runners at far ticks, and steps against the runner at the tick.
+//! Ten years of ticks: places and runners at far ticks, steps against the runner at the tick, and one runner moved on through all of them.
 
 use crate::compare::{Comparison, Lent};
-use crate::Options;
+use crate::{Options, DEFAULT_STEPS};
 use harness::boundary::Call;
 use harness::model;
 use harness::random::Random;
@@ -30,7 +30,28 @@ pub fn run(options: &Options, comparison: &mut Comparison) -> u64 {
         steps += to_the_end(comparison, &sheets::of_size(&mut random, kind, 40).bytes());
     }
     println!("ten years: {far} far ticks compared (to {TEN_YEARS} and to 2^64 - 1), {steps} steps compared with the runner at the tick");
-    steps
+    steps + on_foot(options, comparison, &triangle)
+}
+
+/// One runner, moved on tick by tick for ten years (fewer where fewer steps are asked for): after each step it stands where a count kept
+/// here says, and at the end where the tick names.
+fn on_foot(options: &Options, comparison: &mut Comparison, sheet: &[u8]) -> u64 {
+    let legs: Vec<u64> = model::read(sheet).expect("an accepted sheet").legs.iter().map(|leg| *leg as u64).collect();
+    let count = (u128::from(TEN_YEARS) * u128::from(options.steps) / u128::from(DEFAULT_STEPS)) as u64;
+    let (mut runner, mut counted) = (Runner::default(), Runner::default());
+    for tick in 1..=count {
+        counted.offset += 1;
+        if counted.offset == legs[counted.leg as usize] {
+            counted = Runner { leg: (counted.leg + 1) % legs.len() as u64, offset: 0 };
+        }
+        let answer = station::step(sheet, &mut runner);
+        comparison
+            .require(answer == Ok(()) && runner == counted, || format!("step {tick} on foot: {answer:?} {runner:?}, counted {counted:?}"));
+    }
+    let named = station::runner_at_tick(sheet, count);
+    comparison.require(named == Ok(runner), || format!("after {count} steps {runner:?}, the tick names {named:?}"));
+    println!("on foot: one runner moved on {count} times, each time where it is counted to be");
+    count
 }
 
 /// Places and runners at ticks of ten years and beyond: as the model says, and as at the tick modulo P.
