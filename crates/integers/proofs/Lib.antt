@@ -9,4 +9,5 @@ pub mod Extremes
 pub mod Products
 pub mod Machine
 pub mod Made
+pub mod Tried
 pub mod Uses

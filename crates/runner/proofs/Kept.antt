@@ -1,16 +1,17 @@
 -- A step's number tells whether the runner moved: 0 only where the answer is the runner moved on. For the step over a lent record.
 use mathlib.Core.Path.{_≡_, refl, sym, ap, _∙_}
 use mathlib.Core.Bool.{Bool, true, false, cond}
-use mathlib.Core.List.{List}
+use mathlib.Core.List.{List, _∷_}
 use Prim.Native.Nat.{ℕ}
 use native.Mathlib.Omega.{arith}
 use lib.IntN.{pos, natAbs}
-use lib.ListN.{getD}
+use lib.ListN.{getD, replicate}
 use borrow.Author.Tests.{eq-eqb, ne-eqb}
 use Rattle.answers.specs.Answers.{done, passOn, guard}
 use Rattle.sheet.proofs.Told.{number-positive}
 use Rattle.sheet.specs.Answers.{Told, refused}
-use Rattle.sheet.specs.Reading.{readSheet}
+use Rattle.sheet.specs.Bytes.{be16, be32, signed32, anyBelow, sumBelow}
+use Rattle.sheet.specs.Reading.{readBy, readSheet}
 use Rattle.sheet.specs.declared.Reading.{Reading}
 use Rattle.sheet.specs.declared.Reading.the-variants as R
 use Rattle.sheet.specs.declared.Refusal.{Refusal}
@@ -18,6 +19,15 @@ use Rattle.sheet.specs.declared.Refusal.the-variants.{Adrift, Landed}
 use Rattle.runner.specs.Ticks.{runner, found}
 use Rattle.runner.specs.Steps.{adrift, landed, moved, stepped, stepAnswer, onward}
 use Rattle.runner.specs.declared.Runner.{Runner}
+
+-- free, one leg of 4, both waypoints at 0
+abbrev pub four : List ℕ
+four = 0 ∷ 0 ∷ 0 ∷ 34 ∷ 1 ∷ 0 ∷ 0 ∷ 2 ∷ 0 ∷ 4 ∷ replicate 24 0
+
+-- tried: from its start to tick 1
+onward-tried : onward four (runner 0 0) ≡ runner 0 1
+unfolding be16 be32 signed32 anyBelow sumBelow readBy adrift moved stepped onward
+onward-tried = refl
 
 never-zero : (q : Refusal) {X : Type 0} → refused q .number ≡ 0 → X
 never-zero q e = absurd (omega (arith, number-positive q))

@@ -1,12 +1,17 @@
 -- The chain of tests in `lowest` (specs/Reading): what one test leaves, for the reader's proof and for the theorems.
-use mathlib.Core.Path.{_≡_, sym, ap}
+use mathlib.Core.Path.{_≡_, refl, sym, ap}
 use mathlib.Core.Bool.{Bool, true, false}
-use mathlib.Core.List.{List, _∷_}
+use mathlib.Core.List.{List, [], _∷_, map}
 use Prim.Native.Nat.{ℕ}
 use lib.ListN.{drop}
+use Rattle.sheet.specs.Answers.{numberOf}
 use Rattle.sheet.specs.Reading.{applies, refuseIf, lowest, tested, mostPoints}
 use Rattle.sheet.specs.declared.Refusal.{Refusal}
 use Rattle.sheet.specs.declared.Reading.the-variants.{Refused}
+
+-- the tests stand in the order of their numbers
+in-order : map numberOf tested ≡ 1 ∷ 2 ∷ 3 ∷ 4 ∷ 5 ∷ 6 ∷ 7 ∷ 8 ∷ []
+in-order = refl
 
 -- the tests after the number k
 abbrev pub past : ℕ → List Refusal

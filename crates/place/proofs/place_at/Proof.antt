@@ -6,11 +6,11 @@ use Prim.Native.Nat.{ℕ, _+_, _*_, _<_}
 use native.Mathlib.Omega.{arith}
 use borrow.Author.Needs.{needs}
 use lib.IntN.{ℤ}
-use Rattle.integers.proofs.Made.{passed}
+use Rattle.integers.proofs.Made.{read, passed}
 use Rattle.sheet.specs.Bytes.{anyBelow}
 use Rattle.systems.specs.Passes.{at}
 use Rattle.runner.specs.declared.Runner.{Runner}
-use Rattle.place.specs.Places.{endOf, beyond, bendOutside}
+use Rattle.place.specs.Places.{endOf, beyond, bendOutside, placeOn}
 use Rattle.place.specs.Asked.{Fitting}
 use Rattle.place.proofs.Answer.{answers-with}
 use Rattle.place.proofs.Fitting.{start-fits, end-is, list-room, leg-room}
@@ -87,9 +87,10 @@ place-on-requires-3 c κs = let l = c .before .before in (fitting (s l), (within
 returns-2 : tie.Need-returns-2
 returns-2 c =
     let b = c .before in let a = b .before in
-    let north = passed (a .place-on .ensures) (a .place-on .ok) in
-    let east = passed (b .place-on2 .ensures) (b .place-on2 .ok) in
-    let up = passed (c .place-on3 .ensures) (c .place-on3 .ok) in
+    let k = s (a .before) in let on = placeOn (sheet k) (list k) (runner k) in
+    let north : read (a .place-on .result) ≡ on 0 = passed (a .place-on .ensures) (a .place-on .ok) in
+    let east : read (b .place-on2 .result) ≡ on 1 = passed (b .place-on2 .ensures) (b .place-on2 .ok) in
+    let up : read (c .place-on3 .result) ≡ on 2 = passed (c .place-on3 .ensures) (c .place-on3 .ok) in
     let free = within (e (a .before)) in
     ((λ i. record { number = 0; values = north i ∷ east i ∷ up i ∷ [] }) ∙ simp free, (λ i. north i ∷ east i ∷ up i ∷ []) ∙ simp free)
 

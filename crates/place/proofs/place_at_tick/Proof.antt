@@ -7,6 +7,8 @@ use borrow.Author.Needs.{needs}
 use lib.Dec.{ltb}
 use lib.IntN.{ℤ}
 use lib.ListN.{length}
+use Rattle.sheet.specs.Answers.{refused}
+use Rattle.sheet.specs.declared.Refusal.the-variants.{Past}
 use Rattle.layout.specs.Layout.{short}
 use Rattle.runner.specs.Ticks.{isOpen, past}
 use Rattle.runner.specs.Steps.{adrift}
@@ -87,7 +89,7 @@ returns-3 : tie.Need-returns-3
 unfolding placeAtTick
 returns-3 c =
     let q = c .before .before in let w = q .before .before in
-    answers-with (c .refused3 .result) (c .refused3 .ensures)
+    answers-with (c .refused3 .result) {t = refused Past} (c .refused3 .ensures)
     (simp (told-course (w .before) .read, short-said w false (q .before .if1 .left), past-said q true (c .before .if2 .taken)))
 
 leg-count-requires : tie.Need-leg-count-requires

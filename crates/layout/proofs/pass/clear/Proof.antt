@@ -1,12 +1,13 @@
 -- `layout::pass::clear` meets its contract: after i turns the first i numbers are 0.
 use mathlib.Core.Path.{_≡_, refl, ap, _∙_}
-use mathlib.Core.List.{List, _++_, append-nil}
+use mathlib.Core.List.{List, [], _∷_, _++_, append-nil}
 use Prim.Native.Nat.{_-_, _≤_, _<_}
 use native.Mathlib.Omega.{arith}
 use borrow.Author.Needs.{needs}
 use lib.IntN.{ℤ, pos}
 use lib.ListN.{length, set, drop, replicate, length-set}
 use lib.Seq.{drop-length}
+use Rattle.integers.proofs.Tried.{Tried, tried}
 use Rattle.layout.proofs.Fill.{fill-more}
 use Rattle.layout.proofs.pass.clear.Statement.{statement}
 use Rattle.layout.proofs.pass.clear.Tie as tie
@@ -16,6 +17,10 @@ Inv-loop z₀ i₀ z i = (i ≤ length z₀) × (length z ≡ length z₀) × (z
 
 abbrev μ-loop : tie.MeasureT-loop
 μ-loop z₀ i₀ z i = length z₀ - i
+
+-- tried at a list that holds 5: nothing is cleared yet
+first-tried : (c : tie.Start Inv-loop μ-loop) → c .args .z .now ≡ pos 5 ∷ [] → Tried
+first-tried c e = tried (λ (need : tie.Need-loop-holds Inv-loop μ-loop). need c .2) (simp e refl)
 
 loop-holds : tie.Need-loop-holds Inv-loop μ-loop
 loop-holds c = (search needs, refl, refl)

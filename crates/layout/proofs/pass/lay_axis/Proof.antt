@@ -1,6 +1,7 @@
 -- `layout::pass::lay_axis` meets its contract: after each turn the numbers are those of as many passes from zeros. After a pass that changed nothing they are
 -- those of 40 passes already, by `early-end` of crate systems.
-use mathlib.Core.Path.{_≡_, sym, ap, _∙_}
+use mathlib.Core.Path.{_≡_, refl, sym, ap, _∙_}
+use mathlib.Core.Bool.{false}
 use Prim.Native.Nat.{ℕ, _-_, _≤_}
 use native.Mathlib.Omega.{arith}
 use borrow.Author.Needs.{needs}
@@ -38,6 +39,20 @@ module _ (a : tie.At-loop Inv-loop μ-loop) where
 
 pass-requires : tie.Need-pass-requires Inv-loop μ-loop
 pass-requires c κs = let a = c .before .before in (start a .pre .0, record { count = a .loop .done; numbers = a .loop .inv .1 })
+
+-- tried: a pass that changed nothing comes to the return
+last-tried : (c : tie.After-z2 Inv-loop μ-loop) → c .before .pass .result ≡ false → tie.Then1 Inv-loop μ-loop
+last-tried c e =
+    let p = c .before .pass in record {
+      before = record {
+        before = record {
+          before = c .before .before;
+          pass = record { lifetimes = p .lifetimes; result = false; last = p .last; ok = p .ok; kept = p .kept; ensures = (p .ensures .0, λ f. p .ensures .1 e) };
+        };
+        z2 = record { given = c .z2 .given };
+      };
+      if1 = record { taken = refl };
+    }
 
 same-length : tie.Need-same-length Inv-loop μ-loop
 same-length c = let f = c .before .before in f .pass .kept .1 .1 .1 .1 .0 ∙ same-size (f .before .before .before)

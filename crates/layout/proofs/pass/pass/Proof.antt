@@ -6,7 +6,7 @@ use mathlib.Core.List.{List}
 use mathlib.Core.Logic.{⊎-elim}
 use Prim.Native.Nat.{ℕ, _+_, _-_, _≤_, _<_}
 use native.Mathlib.Omega.{arith}
-use lib.IntN.{ℤ}
+use lib.IntN.{ℤ, pos, _-ℤ_}
 use lib.ListN.{length, set}
 use mir.Syntax.{w64}
 use mir.Val.{toZ}
@@ -18,6 +18,7 @@ use Rattle.layout.specs.Course.{course}
 use Rattle.layout.specs.Inside.{skipped, Small, AllSmall}
 use Rattle.layout.proofs.Given.{two-points, few-points, prev-fits}
 use Rattle.integers.proofs.Made.{read, passed}
+use Rattle.integers.proofs.Tried.{Tried, tried}
 use Rattle.layout.proofs.Neighbours.{prev-later, next-inner}
 use Rattle.layout.proofs.Sweep.{Through, skipped-few, between, kept, unmoved, at-set, turn-renews, start-length}
 use Rattle.layout.proofs.Sweep.{through-start, through-small, through-turn, through-end}
@@ -171,6 +172,13 @@ module _ (c : tie.Joined2 Inv-loop μ-loop) where
       let right = kept (small a) (i + 1) next-fits ∙ ap (at (z a)) (next-inner (c-of a) i (omega (arith, o .samePoints))) in
       passed (f .renewed .ensures) (f .renewed .ok) ∙ turn-renews o (z a) i (row .result) _ _ (row .ensures .0) (a .loop .inv .3) right
 
+  -- tried where 0 becomes 1: the left neighbour is the new number
+  left-tried : x ≡ pos 1 → at (z a) i ≡ pos 0 → toZ w64 (c .if2 .left) -ℤ at (z a) i ≡ pos 1
+  left-tried p q = ⊎-elim
+      (λ w. ap (λ v. toZ w64 v -ℤ at (z a) i) (w .3 ∙ sym (w .0 .taken)) ∙ simp (p, q) refl)
+      (λ w. ap (λ v. toZ w64 v -ℤ at (z a) i) (w .3) ∙ simp (p, q) refl)
+      (c .if2 .came)
+
   turned : (c .if2 .z ≡ set (z a) i (renewed (rows (c-of a)) 65536 (z a) i)) × (c .if2 .changed ≡ false → (a .loop .changed ≡ false) × (c .if2 .z ≡ z a))
       × (toZ w64 (c .if2 .left) ≡ at (c .if2 .z) i)
   turned = ⊎-elim
@@ -207,6 +215,21 @@ turn-requires-2 c κs =
 
 same-length : tie.Need-same-length Inv-loop μ-loop
 same-length c = let f = c .before in f .turn2 .kept .1 .1 .1 .1 .1 .0 ∙ in-length (f .before .before .before .before)
+
+-- tried: a last turn that changed a number is answered
+module _ (c : tie.After-z2 Inv-loop μ-loop) where
+  last-turned : tie.After-z2 Inv-loop μ-loop
+  last-turned = let t = c .before .turn2 in record {
+    before = record {
+      before = c .before .before;
+      turn2 = record { lifetimes = t .lifetimes; result = true; last = t .last; ok = t .ok; kept = t .kept; ensures = (t .ensures .0, λ e. absurd (false≢true (sym e))) };
+    };
+    z2 = record { given = c .z2 .given };
+  }
+
+  last-tried : Tried
+  unfolding last-turned
+  last-tried = tried (λ (need : tie.Need-returns Inv-loop μ-loop). need last-turned .1) (λ e. absurd (false≢true (sym e)))
 
 returns : tie.Need-returns Inv-loop μ-loop
 returns c =

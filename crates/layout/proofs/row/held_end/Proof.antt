@@ -2,12 +2,22 @@
 use mathlib.Core.Path.{refl}
 use native.Mathlib.Nat.{mul-pos}
 use native.Mathlib.Omega.{arith}
+use borrow.Author.Needs.{needs}
 use lib.IntN.{pos, natAbs}
 use Rattle.spline.specs.Spline.{heldEndRow}
 use Rattle.integers.proofs.Made.{Made, given, fits, times, minus}
+use Rattle.integers.proofs.Tried.{Tried, tried}
 use Rattle.layout.proofs.RowMade.{leg-some, leg-made, zero, two, once, row-made}
 use Rattle.layout.proofs.row.held_end.Statement.{statement}
 use Rattle.layout.proofs.row.held_end.Tie as tie
+
+-- tried at 01's "Held, one leg of 4, values 0, 16, both slopes 0": 16, 32 and the right side -16
+four : tie.Start
+four = record { args = record { g = pos 4; e = pos 16; p = pos 0 }; good = search needs; fits = search needs; pre = search needs }
+
+row-tried : Tried
+unfolding heldEndRow four
+row-tried = tried (λ (need : tie.Need-returns). need four .0) refl
 
 module _ (s : tie.Start) where
   g : Made (s .args .g) (pos (natAbs (s .args .g))) 256

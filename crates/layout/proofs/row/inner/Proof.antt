@@ -2,13 +2,23 @@
 use mathlib.Core.Path.{_≡_, refl}
 use native.Mathlib.Nat.{mul-pos}
 use native.Mathlib.Omega.{arith}
+use borrow.Author.Needs.{needs}
 use lib.IntN.{ℤ, pos, natAbs, _+ℤ_, _*ℤ_}
 use Rattle.integers.proofs.Ring.{solve, _≋_, _⊕_, _⊗_, #_}
 use Rattle.spline.specs.Spline.{innerRow}
 use Rattle.integers.proofs.Made.{Made, given, fits, times, plus, minus}
+use Rattle.integers.proofs.Tried.{Tried, tried}
 use Rattle.layout.proofs.RowMade.{leg-some, leg-made, two, once, row-made}
 use Rattle.layout.proofs.row.inner.Statement.{statement}
 use Rattle.layout.proofs.row.inner.Tie as tie
+
+-- tried at 01's "Free, legs 1, 2, values 0, 0, 6": 2, 12, 4 and the right side 6
+one-two : tie.Start
+one-two = record { args = record { g = pos 1; h = pos 2; d = pos 6; e = pos 0 }; good = search needs; fits = search needs; pre = search needs }
+
+row-tried : Tried
+unfolding innerRow one-two
+row-tried = tried (λ (need : tie.Need-returns). need one-two .0) refl
 
 module _ (s : tie.Start) where
   g : Made (s .args .g) (pos (natAbs (s .args .g))) 256

@@ -1,9 +1,9 @@
 -- `place::axis::place_on` meets its contract: the six numbers that it reads are those of the definition, and within the limits that `position` asks for.
-use mathlib.Core.Path.{_≡_, ap, _∙_}
+use mathlib.Core.Path.{_≡_, refl, ap, _∙_}
 use mathlib.Core.List.{List}
 use Prim.Native.Nat.{ℕ, _+_, _*_, _<_}
 use native.Mathlib.Omega.{arith}
-use lib.IntN.{ℤ, natAbs}
+use lib.IntN.{ℤ, pos, negsuc, natAbs}
 use Rattle.integers.proofs.Made.{read, passed}
 use Rattle.sheet.specs.Fields.{leg, waypoint}
 use Rattle.spline.specs.Position.{position}
@@ -83,6 +83,13 @@ position-requires c κs =
     let inside : end c < k .args .points = omega (arith, end-is c, k .pre .1 .1 .0 .1) in
     let fit = numbers-fit (fitting k) (k .pre .1 .0) (axis k) (axis-fits k) inside in
     omega (arith, h-is c, ap natAbs (v-is c), ap natAbs (w-is c), ap natAbs (z-is c), ap natAbs (y-is c))
+
+-- tried at the numbers of 01's "Held, one leg of 4, values 0, 16, .. : Z 65,536, -65,536; tick 1"
+held-tried : (c : tie.After-position) → let k = c .before in s k .args .h ≡ 4 → runner (s k) .offset ≡ 1
+    → k .before .before .before .waypoint-on .result ≡ pos 0 → k .before .before .waypoint-on2 .result ≡ pos 16
+    → k .before .bend-of .result ≡ pos 65536 → k .bend-of2 .result ≡ negsuc 65535
+    → c .position .result ≡ position 4 1 (pos 0) (pos 16) (pos 65536) (negsuc 65535)
+held-tried c h u v w z y = c .position .ensures ∙ simp (h, u, v, w, z, y) refl
 
 returns : tie.Need-returns
 unfolding placeOn

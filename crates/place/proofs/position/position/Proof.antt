@@ -1,16 +1,29 @@
 -- `place::position::position` meets its contract: all numbers fit, so that the quotient rounded is 01's.
-use mathlib.Core.Path.{_∙_}
+use mathlib.Core.Path.{refl, _∙_}
 use Prim.Native.Nat.{_*_}
 use native.Mathlib.Omega.{arith}
 use borrow.Author.Needs.{needs}
-use lib.IntN.{natAbs}
+use lib.IntN.{pos, negsuc, natAbs}
 use Rattle.integers.proofs.Order.{pos-le}
-use Rattle.rounding.specs.Rounded.{rounded}
+use Rattle.rounding.specs.Rounded.{floor, rounded}
 use Rattle.spline.specs.Position.{position}
 use Rattle.integers.proofs.Made.{fits, read-back, passed, times, minus}
 use Rattle.place.proofs.Numerator.{scale, past, left, sum, rest, whole, start, end, start-bend, end-bend, ends, bends, bend, numerator-is}
 use Rattle.place.proofs.position.position.Statement.{statement}
 use Rattle.place.proofs.position.position.Tie as tie
+
+-- tried at 01's "Held, one leg of 4, values 0, 16": "tick 1 gives 3"
+held-tried : tie.After-rounded
+unfolding floor rounded
+held-tried = record {
+  before = record {
+    args = record { h = 4; u = 1; v = pos 0; w = pos 16; z = pos 65536; y = negsuc 65535 };
+    good = search needs;
+    fits = search needs;
+    pre = search needs;
+  };
+  rounded = record { lifetimes = tt; result = pos 3; last = search needs; ok = search needs; kept = search needs; ensures = refl };
+}
 
 cast-past : tie.Need-cast-past
 cast-past c = search needs

@@ -1,6 +1,6 @@
 -- `runner::steps::moved` meets its contract: a runner that fits the sheet and has not landed is below its leg's length, so nothing wraps, and each way out is
 -- the definition's line for the tests passed on the way.
-use mathlib.Core.Path.{_≡_, ap, sym, _∙_}
+use mathlib.Core.Path.{_≡_, refl, ap, sym, _∙_}
 use mathlib.Core.List.{List}
 use Prim.Native.Nat.{ℕ, suc, _+_, _≤_, _<_}
 use native.Mathlib.Numerals.{add-one}
@@ -10,6 +10,7 @@ use borrow.Author.Tests.{lt-ltb, le-ltb}
 use Rattle.ends.specs.declared.EndKind.{EndKind}
 use Rattle.sheet.proofs.Laws.{accepted-bounds}
 use Rattle.sheet.specs.Fields.{legs, leg}
+use Rattle.integers.proofs.Tried.{Tried, tried}
 use Rattle.runner.specs.Ticks.{runner}
 use Rattle.runner.specs.Steps.{lastStep, moved}
 use Rattle.runner.specs.declared.Runner.{Runner}
@@ -58,6 +59,10 @@ add-next c = let g = going (c .before) in record { fits = omega arith }
 
 leg-length-requires : tie.Need-leg-length-requires
 leg-length-requires c κs = let g = going (c .before) in let r = room _ _ _ (c .before .pre .0) in omega arith
+
+-- tried at offset 1 on the first leg: to offset 2
+step-tried : (c : tie.Then1) → let e = c .before .before .before in moved (S e) (R e) ≡ runner 0 2 → e .args .leg ≡ 0 → e .args .offset ≡ 1 → Tried
+step-tried c m l u = tried (λ (need : tie.Need-returns). need c) (_∙_ {b = runner 0 2} (simp (l, u) refl) (sym m))
 
 returns : tie.Need-returns
 unfolding moved

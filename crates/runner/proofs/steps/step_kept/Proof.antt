@@ -1,7 +1,9 @@
 -- `runner::steps::step_kept` meets its contract: what `step_at` tells decides outcome and record together.
-use mathlib.Core.Path.{sym, ap, _∙_}
+use mathlib.Core.Path.{_≡_, refl, sym, ap, _∙_}
 use borrow.Author.Needs.{needs}
+use Rattle.integers.proofs.Tried.{Tried, tried}
 use Rattle.runner.specs.Ticks.{runner, toldRunner}
+use Rattle.runner.specs.Steps.{onward}
 use Rattle.runner.proofs.Kept.{kept-moved, kept-refused}
 use Rattle.runner.proofs.steps.step_kept.Statement.{statement}
 use Rattle.runner.proofs.steps.step_kept.Tie as tie
@@ -16,6 +18,11 @@ enum-known-next c = search needs
 
 enum-known-r : tie.Need-enum-known-r
 enum-known-r c = search needs
+
+-- tried: a step to leg 1, offset 0 leaves these
+moved-tried : (c : tie.After-known-told) → let a = c .before .before .before .before .before .args in onward (a .s .now) (runner (a .leg) (a .offset)) ≡ runner 1 0
+    → c .before .next .given .0 .0 ≡ runner 1 0 → Tried
+moved-tried c e n = tried (λ (need : tie.Need-returns). need c .1) (_∙_ {b = runner 1 0} (simp n refl) (sym e))
 
 returns : tie.Need-returns
 returns c =

@@ -23,13 +23,16 @@ returns c = let s = S (c .before .before) in ap told (stopped s Torn (past 1) (s
 read32-requires : tie.Need-read32-requires
 read32-requires c κs = search needs
 
+is-length : (c : tie.After-read32) → c .read32 .result ≡ be32 (S (c .before .before .before)) 0
+is-length c = c .read32 .ensures .0
+
 returns-2 : tie.Need-returns-2
 unfolding readBy
 returns-2 c =
     let s = S (c .before .before .before .before) in
     ap told (stopped s Torn (past 1) (simp (
       le-ltb (length s) 8 (c .before .before .if1 .left),
-      ne-eqb (be32 s 0) (length s) (λ e. c .if2 .taken (c .before .read32 .ensures .0 ∙ e)),
+      ne-eqb (be32 s 0) (length s) (λ e. c .if2 .taken (is-length (c .before) ∙ e)),
     )))
 
 read-fields-requires : tie.Need-read-fields-requires
@@ -41,7 +44,7 @@ returns-3 c =
     let p = c .before in let s = S (p .before .before .before .before) in
     ap told (c .read-fields .ensures ∙ passed s Torn (past 1) (simp (
       le-ltb (length s) 8 (p .before .before .if1 .left),
-      eq-eqb (be32 s 0) (length s) (sym (p .before .read32 .ensures .0) ∙ p .if2 .left),
+      eq-eqb (be32 s 0) (length s) (sym (is-length (p .before)) ∙ p .if2 .left),
     )))
 
 pub read-spec : {M : Type 1} → statement M

@@ -1,11 +1,12 @@
 -- `sheet::reader::read_body` meets its contract: each part of the walk answers one of the definition's questions, and what does not apply is passed.
-use mathlib.Core.Path.{_≡_, sym, ap, _∙_}
+use mathlib.Core.Path.{_≡_, refl, sym, ap, _∙_}
 use mathlib.Core.List.{List}
 use Prim.Native.Nat.{ℕ, _+_, _*_, _≤_}
 use native.Mathlib.Omega.{arith}
 use borrow.Author.Needs.{needs}
 use Rattle.ends.specs.Ends.{legCount}
 use Rattle.ends.specs.declared.EndKind.{EndKind}
+use Rattle.ends.specs.declared.EndKind.the-variants.{Closed}
 use Rattle.sheet.specs.Bytes.{anyBelow, sumBelow}
 use Rattle.sheet.specs.Fields.{legs, leg, ticks, waypoint}
 use Rattle.sheet.specs.Reading.{legOutside, reachOutside, slopesOutside, applies, mostPoints, lowest}
@@ -19,6 +20,10 @@ use Rattle.sheet.proofs.reader.read_body.Tie as tie
 module _ (c : tie.After-leg-count) where
   abbrev S : List ℕ
   S = c .before .before .args .s .now
+
+  -- tried at a closed course of 3: 3 legs
+  closed-tried : c .before .before .args .kind ≡ Closed → c .before .before .args .n ≡ 3 → c .leg-count .result ≡ 3
+  closed-tried k n = c .leg-count .ensures ∙ simp (k, n) refl
 
   is-legs : c .leg-count .result ≡ legs S
   is-legs = let pre = c .before .before .pre in c .leg-count .ensures ∙ (λ i. legCount (pre .0 i) (pre .1 i))

@@ -7,6 +7,7 @@ use borrow.Author.Tests.{le-ltb, lt-ltb, eq-eqb, ne-eqb}
 use lib.ListN.{length}
 use borrow.Author.Needs.{needs}
 use Rattle.ends.specs.Ends.{leastPoints}
+use Rattle.ends.specs.declared.EndKind.the-variants.{Closed}
 use Rattle.sheet.specs.Bytes.{byte}
 use Rattle.sheet.specs.Fields.{kind, points, sheetLength}
 use Rattle.sheet.specs.Reading.{mostPoints, lowest}
@@ -34,6 +35,10 @@ module _ (c : tie.After-least-points) where
 
   is-points : c .before .read16 .result ≡ points s-of
   is-points = c .before .read16 .ensures .0
+
+  -- tried at a closed course: 3
+  closed-tried : c .before .before .kind-of .result ≡ Closed → c .least-points .result ≡ 3
+  closed-tried k = omega (arith, c .least-points .ensures, ap leastPoints k)
 
   is-least : c .least-points .result ≡ leastPoints (kind s-of)
   is-least = c .least-points .ensures ∙ ap leastPoints (c .before .before .kind-of .ensures)

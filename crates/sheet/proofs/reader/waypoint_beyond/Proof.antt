@@ -1,5 +1,6 @@
 -- `sheet::reader::waypoint_beyond` meets its contract: one test for each axis, and the first that holds tells.
 use mathlib.Core.Path.{_≡_, refl, sym, _∙_, ap}
+use mathlib.Core.Bool.{true}
 use mathlib.Core.List.{List}
 use Prim.Native.Nat.{ℕ, _+_}
 use borrow.Author.Needs.{needs}
@@ -21,6 +22,12 @@ north c = c .beyond-reach .ensures ∙ ap (λ (x : ℕ). reachOutside 0 (signed3
 
 east : (c : tie.After-beyond-reach2) → let t = c .before .before .before in c .beyond-reach2 .result ≡ reachOutside 1 (signed32 (be32 (S t) (at t + 4)))
 east c = c .beyond-reach2 .ensures ∙ ap (λ (x : ℕ). reachOutside 1 (signed32 x)) (c .before .before .before .read-triple .ensures .0 .1)
+
+-- tried at the waypoint (0, 0, 1,000,001): the last test tells
+up-tried : (c : tie.After-beyond-reach3) → c .before .before .before .before .before .read-triple .result ≡ record { north = 0; east = 0; up = 1_000_001 }
+    → c .beyond-reach3 .result ≡ true
+unfolding signed32
+up-tried c e = c .beyond-reach3 .ensures ∙ simp e refl
 
 read-triple-requires : tie.Need-read-triple-requires
 read-triple-requires c κs = search needs
