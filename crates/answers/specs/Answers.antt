@@ -1,9 +1,9 @@
 -- How a call's number is found after reading (01, Named numbers). Every call's definition is a chain of these in the table's order.
+use mathlib.Core.Path.{_≡_}
 use mathlib.Core.Bool.{Bool, true, false}
 use mathlib.Core.List.{[]}
 use Rattle.sheet.specs.Answers.{Told, refused}
 use Rattle.sheet.specs.declared.Refusal.{Refusal}
-use Rattle.sheet.specs.declared.Refusal.the-variants.{Torn}
 use Rattle.sheet.specs.declared.Reading.{Reading}
 use Rattle.sheet.specs.declared.Reading.the-variants as R
 use Rattle.answers.specs.declared.Outcome.{Outcome}
@@ -18,7 +18,7 @@ abbrev pub toldOutcome : Outcome → Told
 toldOutcome Done = done
 toldOutcome (Refused r) = refused r
 
--- 01: "A call given a refused sheet passes the reader's refusal on."
+-- A8: reading's refusal is the call's
 abbrev pub passOn : Reading → Told → Told
 passOn (R.Refused r) rest = refused r
 passOn (R.Course k n p) rest = rest
@@ -28,7 +28,6 @@ abbrev pub guard : Bool → Refusal → Told → Told
 guard true r rest = refused r
 guard false r rest = rest
 
--- what `refusal_of` gives
-abbrev pub refusalOf : Reading → Refusal
-refusalOf (R.Refused r) = r
-refusalOf (R.Course k n p) = Torn
+-- r is the refusal that reading's answer carries, if it carries one: what `refusal_of` promises
+abbrev pub Carries : Reading → Refusal → Type 0
+Carries answer r = (q : Refusal) → answer ≡ R.Refused q → r ≡ q

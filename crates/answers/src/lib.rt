@@ -1,8 +1,7 @@
 // What every call after reading shares: its outcome, and the reader's refusal passed on (01, Named numbers). For layout, runner and place.
 use sheet::Reading;
 use sheet::Refusal;
-ghost use mathlib.Core.Path.{_≡_};
-ghost use Rattle.answers.specs.Answers.{refusalOf};
+ghost use Rattle.answers.specs.Answers.{Carries};
 
 // 01: laying out and a step "answer only that they are done"; or the refusal.
 pub enum Outcome {
@@ -10,9 +9,9 @@ pub enum Outcome {
     Refused(Refusal),
 }
 
-// The refusal that a reader's answer carries, for the `else` of a `let .. else`. (Of a course it is never asked.)
+// The refusal that a reader's answer carries, for the `else` of a `let .. else`, which cannot bind it. Nothing is promised of a course: callers have none there.
 pub fn refusal_of(reading: Reading) -> Refusal
-    ensures { λ r. ⌜ r ≡ refusalOf reading ⌝ }
+    ensures { λ r. ⌜ Carries reading r ⌝ }
 {
     match reading {
         Reading::Refused(r) => r,

@@ -10,8 +10,7 @@ use lib.IntN.{ℤ}
 use lib.ListN.{length, drop}
 use Rattle.sheet.specs.Answers.{Told, numberOf, refused}
 use Rattle.sheet.specs.Fields.{kind, points, ticks}
-use Rattle.sheet.specs.Reading.{readSheet}
-use Rattle.sheet.specs.Theorems.{Accepted}
+use Rattle.sheet.specs.Reading.{readSheet, Accepted}
 use Rattle.sheet.specs.declared.Refusal.{Refusal}
 use Rattle.sheet.specs.declared.Refusal.the-variants.{Shelf}
 use Rattle.sheet.specs.declared.Reading.{Reading}

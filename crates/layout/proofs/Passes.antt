@@ -9,8 +9,7 @@ use Rattle.sheet.specs.Fields.{points}
 use Rattle.systems.specs.Passes.{pass}
 use Rattle.systems.specs.Rows.{Rows}
 use Rattle.systems.proofs.Lists.{length-passes, passes-next, early-end}
-use Rattle.spline.specs.Spline.{rows}
-use Rattle.spline.specs.Theorems.{bends}
+use Rattle.spline.specs.Spline.{rows, bends}
 use Rattle.layout.specs.Course.{course}
 use Rattle.layout.specs.Inside.{afterPasses}
 

@@ -62,7 +62,7 @@ pub record Sized (r : Row) : Type 0 where
 
 -- DESIGN 3.3's bound on every bend number in every pass
 abbrev pub Small : ℤ → Type 0
-Small z = natAbs z ≤ 131_399_680_001
+Small z = natAbs z ≤ 131_399_680_000
 
 -- n numbers, all of them small
 pub record AllSmall (n : ℕ) (z : List ℤ) : Type 0 where

@@ -10,7 +10,7 @@ use Rattle.sheet.specs.Fields.{points}
 use Rattle.sheet.specs.Reading.{readSheet}
 use Rattle.sheet.specs.declared.Refusal.the-variants.{Shelf}
 use Rattle.answers.specs.Answers.{done, passOn, guard}
-use Rattle.spline.specs.Theorems.{bends}
+use Rattle.spline.specs.Spline.{bends}
 use Rattle.layout.specs.Course.{course}
 
 -- 01: "North fills the first N places of the lent list, east the next N, up the N after those"; each axis by 40 passes from zeros

@@ -2,9 +2,9 @@
 use mathlib.Core.List.{List}
 use Prim.Native.Nat.{ℕ, _<_}
 use Rattle.sheet.specs.Fields.{points}
-use Rattle.sheet.specs.Theorems.{Accepted}
-use Rattle.spline.specs.Spline.{InBounds, Curve, Exact}
-use Rattle.spline.specs.Theorems.{bends, Eighths}
+use Rattle.sheet.specs.Reading.{Accepted}
+use Rattle.spline.specs.Spline.{InBounds, Curve, Exact, bends}
+use Rattle.spline.specs.Theorems.{Eighths}
 use Rattle.systems.specs.Passes.{at}
 use Rattle.layout.specs.Course.{course}
 

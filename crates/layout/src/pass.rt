@@ -8,8 +8,7 @@ ghost use lib.IntN.{pos, natAbs, _-ℤ_, _*ℤ_};
 ghost use lib.ListN.{length, set, replicate};
 ghost use Rattle.rounding.specs.Rounded.{rounded};
 ghost use Rattle.systems.specs.Passes as systems;
-ghost use Rattle.spline.specs.Spline.{rows};
-ghost use Rattle.spline.specs.Theorems.{bends};
+ghost use Rattle.spline.specs.Spline.{rows, bends};
 ghost use Rattle.layout.specs.Course.{course};
 ghost use Rattle.layout.specs.Inside.{OnSheet, HasRow, Sized, Small, AllSmall, Reached, endRows};
 

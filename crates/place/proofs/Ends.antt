@@ -8,7 +8,7 @@ use Rattle.integers.proofs.Ring.{solve, _≋_, _⊕_, _⊖_, _⊗_, #_}
 use Rattle.rounding.specs.Rounded.{rounded}
 use Rattle.rounding.proofs.Laws.{rounded-exact}
 use Rattle.sheet.specs.Fields.{legs, leg, waypoint}
-use Rattle.sheet.specs.Theorems.{Accepted}
+use Rattle.sheet.specs.Reading.{Accepted}
 use Rattle.sheet.proofs.Laws.{accepted-bounds}
 use Rattle.spline.specs.Position.{numerator, position}
 use Rattle.runner.specs.Ticks.{runner}

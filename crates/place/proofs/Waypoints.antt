@@ -16,7 +16,7 @@ use Rattle.ends.specs.declared.EndKind.{EndKind}
 use Rattle.ends.specs.declared.EndKind.the-variants.{Free, Held, Closed}
 use Rattle.sheet.specs.Bytes.{sumBelow}
 use Rattle.sheet.specs.Fields.{kind, points, legs, leg, ticks}
-use Rattle.sheet.specs.Theorems.{Accepted}
+use Rattle.sheet.specs.Reading.{Accepted}
 use Rattle.sheet.proofs.Laws.{read-or-refused, accepted-read, accepted-bounds}
 use Rattle.spline.specs.Spline.{next}
 use Rattle.layout.specs.Course.{course}

@@ -7,7 +7,7 @@ use lib.IntN.{ℤ, natAbs}
 use lib.ListN.{length}
 use Rattle.sheet.specs.Answers.{Told}
 use Rattle.sheet.specs.Fields.{points, legs}
-use Rattle.sheet.specs.Theorems.{Accepted}
+use Rattle.sheet.specs.Reading.{Accepted}
 use Rattle.sheet.specs.declared.Refusal.the-variants.{Bend}
 use Rattle.answers.specs.Answers.{guard}
 use Rattle.layout.specs.Layout.{short}

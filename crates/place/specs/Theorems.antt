@@ -8,7 +8,7 @@ use lib.ListN.{length}
 use Rattle.sheet.specs.Answers.{Told}
 use Rattle.sheet.specs.Bytes.{sumBelow}
 use Rattle.sheet.specs.Fields.{kind, points, legs, leg, ticks, waypoint}
-use Rattle.sheet.specs.Theorems.{Accepted}
+use Rattle.sheet.specs.Reading.{Accepted}
 use Rattle.layout.specs.Layout.{short}
 use Rattle.runner.specs.Ticks.{runner, isOpen, reduced, past, spotAt}
 use Rattle.place.specs.Places.{endOf, bendOutside, placeOn, placeAtTick, placeOfRunner}

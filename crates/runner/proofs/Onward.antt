@@ -13,15 +13,14 @@ use Rattle.sheet.proofs.Laws.{accepted-bounds, accepted-read}
 use Rattle.sheet.specs.Answers.{refused}
 use Rattle.sheet.specs.Bytes.{sumBelow}
 use Rattle.sheet.specs.Fields.{kind, legs, leg, ticks}
-use Rattle.sheet.specs.Theorems.{Accepted}
+use Rattle.sheet.specs.Reading.{Accepted}
 use Rattle.sheet.specs.declared.Refusal.the-variants.{Landed}
 use Rattle.runner.specs.Ticks.{runner, found, isOpen, spotAt, tickOf}
 use Rattle.runner.specs.Steps.{landed, lastStep, moved, stepped, onward, after}
 use Rattle.runner.specs.Theorems.{Stands, ClosedSteps, OpenSteps, StepBefore}
 use Rattle.runner.specs.declared.Runner.{Runner}
 use Rattle.runner.proofs.Walk.{by-order}
-use Rattle.runner.proofs.Standing.{Standing, on-leg, at-end, standing, not-adrift, at-end-of, before-end, has-legs}
-use Rattle.runner.proofs.Standing.{tick-before, tick-at-end, has-tick, spot-only, closed-spot}
+use Rattle.runner.proofs.Standing.{Standing, on-leg, at-end, standing, not-adrift, at-end-of, before-end, has-legs, tick-before, tick-at-end, has-tick, spot-only, closed-spot}
 
 -- the tick, of p in all, that a count of steps reaches: on an open course and on a closed one
 abbrev reached : Bool → ℕ → ℕ → ℕ

@@ -17,7 +17,7 @@ use Rattle.sheet.proofs.ByKind.{least-two, legs-at-least}
 use Rattle.sheet.proofs.Laws.{accepted-bounds}
 use Rattle.sheet.specs.Bytes.{sumBelow}
 use Rattle.sheet.specs.Fields.{kind, points, legs, leg, ticks}
-use Rattle.sheet.specs.Theorems.{Accepted}
+use Rattle.sheet.specs.Reading.{Accepted}
 use Rattle.runner.specs.Ticks.{isOpen, reduced, walk, spotAt, tickOf}
 use Rattle.runner.specs.Steps.{atEnd, adrift}
 use Rattle.runner.specs.Theorems.{Stands, TickStands, OneRunner}

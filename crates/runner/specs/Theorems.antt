@@ -6,7 +6,7 @@ use Prim.Native.Nat.{ℕ, _%_, _≤_, min}
 use Rattle.ends.specs.declared.EndKind.the-variants.{Closed}
 use Rattle.sheet.specs.Answers.{refused}
 use Rattle.sheet.specs.Fields.{kind, ticks}
-use Rattle.sheet.specs.Theorems.{Accepted}
+use Rattle.sheet.specs.Reading.{Accepted}
 use Rattle.sheet.specs.declared.Refusal.the-variants.{Landed}
 use Rattle.runner.specs.Ticks.{isOpen, spotAt, tickOf}
 use Rattle.runner.specs.Steps.{adrift, landed, stepped, after}

@@ -10,8 +10,7 @@ use Rattle.ends.specs.declared.EndKind.the-variants.{Free, Held, Closed}
 use Rattle.sheet.specs.Answers.{Told, refused}
 use Rattle.sheet.specs.Bytes.{sumBelow}
 use Rattle.sheet.specs.Fields.{kind, legs, leg, ticks}
-use Rattle.sheet.specs.Reading.{readSheet}
-use Rattle.sheet.specs.Theorems.{Accepted}
+use Rattle.sheet.specs.Reading.{readSheet, Accepted}
 use Rattle.sheet.specs.declared.Refusal.the-variants.{Past}
 use Rattle.answers.specs.Answers.{passOn, guard}
 use Rattle.runner.specs.declared.Runner.{Runner}

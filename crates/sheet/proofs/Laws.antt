@@ -16,8 +16,8 @@ use Rattle.integers.proofs.Order.{le-or-lt}
 use Rattle.sheet.specs.Answers.{numberOf, told}
 use Rattle.sheet.specs.Bytes.{anyBelow}
 use Rattle.sheet.specs.Fields.{kind, points, legs, leg, ticks, waypointsFrom, waypoint, slopesFrom, slope, slopeBytes, sheetLength}
-use Rattle.sheet.specs.Reading.{legOutside, reachOutside, slopeOutside, slopesOutside, applies, lowest, mostPoints, readBy, readSheet}
-use Rattle.sheet.specs.Theorems.{Accepted, ReadOrRefused, ReadAccepted, Bounds, AcceptedBounds}
+use Rattle.sheet.specs.Reading.{Accepted, legOutside, reachOutside, slopeOutside, slopesOutside, applies, lowest, mostPoints, readBy, readSheet}
+use Rattle.sheet.specs.Theorems.{ReadOrRefused, ReadAccepted, Bounds, AcceptedBounds}
 use Rattle.sheet.specs.declared.Refusal.{Refusal}
 use Rattle.sheet.specs.declared.Refusal.the-variants.{Torn, Edition, Ends, Points, Size, Leg, Reach, Slope}
 use Rattle.sheet.specs.declared.Reading.{Reading}

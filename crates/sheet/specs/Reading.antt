@@ -1,7 +1,8 @@
 -- What reading a sheet answers (01, Named numbers): the lowest number that applies, or end kind, N and P where none does.
+use mathlib.Core.Path.{_≡_}
 use mathlib.Core.Bool.{Bool, true, false, not, _||_}
 use mathlib.Core.List.{List, [], _∷_}
-use Prim.Native.Nat.{ℕ}
+use Prim.Native.Nat.{ℕ, _≤_}
 use lib.Dec.{ltb, eqb}
 use lib.IntN.{ℤ, pos, negℤ}
 use lib.ListN.{length}
@@ -9,6 +10,7 @@ use lib.Signed.{ltZ}
 use Rattle.ends.specs.Ends.{leastPoints}
 use Rattle.ends.specs.declared.EndKind.{EndKind}
 use Rattle.ends.specs.declared.EndKind.the-variants.{Free, Held, Closed}
+use Rattle.sheet.specs.Answers.{numberOf}
 use Rattle.sheet.specs.Bytes.{anyBelow}
 use Rattle.sheet.specs.Fields.{lengthField, version, kindField, kind, points, legs, leg, ticks, waypoint, slope, sheetLength}
 use Rattle.sheet.specs.declared.Refusal.{Refusal}
@@ -84,3 +86,7 @@ mostPoints = 512
 
 abbrev pub readSheet : List ℕ → Reading
 readSheet s = readBy mostPoints s
+
+-- A10: none of the numbers that reading tests applies
+abbrev pub Accepted : List ℕ → Type 0
+Accepted s = (r : Refusal) → numberOf r ≤ 8 → applies mostPoints s r ≡ false

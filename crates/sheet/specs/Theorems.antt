@@ -11,13 +11,9 @@ use Rattle.ends.specs.declared.EndKind.{EndKind}
 use Rattle.ends.specs.declared.EndKind.the-variants.{Held}
 use Rattle.sheet.specs.Answers.{numberOf}
 use Rattle.sheet.specs.Fields.{kind, points, legs, leg, ticks, waypoint, slope, sheetLength}
-use Rattle.sheet.specs.Reading.{applies, mostPoints, readSheet}
+use Rattle.sheet.specs.Reading.{Accepted, applies, mostPoints, readSheet}
 use Rattle.sheet.specs.declared.Refusal.{Refusal}
 use Rattle.sheet.specs.declared.Reading.the-variants.{Course, Refused}
-
--- 01, Rows: "A sheet is accepted if none of the numbers that reading tests, here 1 to 8, applies to it."
-abbrev pub Accepted : List ℕ → Type 0
-Accepted s = (r : Refusal) → numberOf r ≤ 8 → applies mostPoints s r ≡ false
 
 -- 01: "The lowest number that applies is given": the answer's refusal applies to the sheet, and no lower one does
 pub record Lowest (s : List ℕ) (r : Refusal) : Type 0 where

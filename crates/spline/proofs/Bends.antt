@@ -9,9 +9,9 @@ use lib.IntN.{pos}
 use Rattle.systems.specs.Passes.{at}
 use Rattle.systems.specs.Theorems.{Passing}
 use Rattle.systems.proofs.Distance.{passes-bounded, forty-passes-near}
-use Rattle.spline.specs.Spline.{Course, InBounds, next, bend6, rowsBy, rows}
+use Rattle.spline.specs.Spline.{Course, InBounds, next, bend6, rowsBy, rows, bends}
 use Rattle.spline.specs.Position.{Near}
-use Rattle.spline.specs.Theorems.{BendsNear, BendsBounded, PositionNear, bends}
+use Rattle.spline.specs.Theorems.{BendsNear, BendsBounded, PositionNear}
 use Rattle.spline.proofs.Waypoints.{next-lt, counts}
 use Rattle.spline.proofs.RowBounds.{Q, row-bounded, rows-dominant}
 use Rattle.spline.proofs.RowsFollow.{rows-follow}

@@ -12,10 +12,8 @@ use Rattle.ends.specs.declared.EndKind.the-variants.{Free, Held, Closed}
 use Rattle.rounding.specs.Rounded.{floor, rounded}
 use Rattle.systems.specs.Rows.{Rows, rowSum, Solves}
 use Rattle.systems.specs.Passes.{at, target, renewed, step, sweep, pass, passes}
-use Rattle.spline.specs.Spline.{Course, legs, next, prev, legBefore, stepAfter, stepBefore, Cubic, Curve, valueAt, firstAt, secondAt, Exact}
-use Rattle.spline.specs.Spline.{innerRow, freeRow, heldStartRow, heldEndRow, along, rowOf, rowsBy, rows}
+use Rattle.spline.specs.Spline.{Course, legs, next, prev, legBefore, stepAfter, stepBefore, Cubic, Curve, valueAt, firstAt, secondAt, Exact, innerRow, freeRow, heldStartRow, heldEndRow, along, rowOf, rowsBy, rows, bends}
 use Rattle.spline.specs.Position.{numerator, position}
-use Rattle.spline.specs.Theorems.{bends}
 
 -- ---- a fact at every number below n, from the fact at each of them
 abbrev Below : ℕ → (ℕ → Type 0) → Type 0

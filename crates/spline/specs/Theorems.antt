@@ -5,28 +5,20 @@ use lib.ListN.{replicate}
 use lib.IntN.{ℤ, pos, natAbs, _-ℤ_, _*ℤ_}
 use Rattle.systems.specs.Rows.{Solves}
 use Rattle.systems.specs.Passes.{at, sweep, passes}
-use Rattle.spline.specs.Spline.{Course, InBounds, legs, next, Curve, Exact, SameCurve, valueAt, bend6, rows}
+use Rattle.spline.specs.Spline.{Course, InBounds, legs, next, Curve, Exact, ExactSpline, SameCurve, valueAt, bend6, rows, bends}
 use Rattle.spline.specs.Position.{position, Near}
 
 -- 01: "That the rows follow from these properties is to be proved."
 abbrev pub RowsFollow : Type 0
 RowsFollow = (c : Course) → InBounds c → (s : Curve) → Exact c s → Solves (rows c) (6 * s .denominator) (bend6 c s)
 
--- 01: "The exact spline exists ..
-pub record ExactSpline (c : Course) : Type 0 where
-  pub curve : Curve
-  pub exact : Exact c curve
-
+-- C4: the exact spline exists ..
 abbrev pub SplineExists : Type 0
 SplineExists = (c : Course) → InBounds c → ExactSpline c
 
 -- .. and every curve with its properties is that same one."
 abbrev pub OneCurve : Type 0
 OneCurve = (c : Course) → InBounds c → (s t : Curve) → Exact c s → Exact c t → SameCurve c s t
-
--- the bend numbers of a course: 01, "All Z start at 0. There are 40 passes."
-abbrev pub bends : Course → List ℤ
-bends c = passes (rows c) 65536 40 (replicate (c .points) (pos 0))
 
 -- a bend number Z is within b eighths of 65,536 times the exact bend at the waypoint i
 abbrev pub Eighths : ℕ → Course → Curve → ℕ → ℤ → Type 0
@@ -36,10 +28,10 @@ Eighths b c s i Z = 8 * natAbs (pos (6 * s .denominator) *ℤ Z -ℤ pos 65536 *
 abbrev pub BendsNear : Type 0
 BendsNear = (c : Course) → InBounds c → (s : Curve) → Exact c s → (i : ℕ) → i < c .points → Eighths 9 c s i (at (bends c) i)
 
--- DESIGN 3.3, sizes: every number in every pass, also half way through one (as far as i), is at most 65,536 × 2,005,000 + 1 in size
+-- sizes: every number in every pass, also half way through one (as far as i), is at most 65,536 × 2,005,000
 abbrev pub BendsBounded : Type 0
 BendsBounded = (c : Course) → InBounds c → (m i j : ℕ) → i ≤ c .points → j < c .points
-    → natAbs (at (sweep (rows c) 65536 i (passes (rows c) 65536 m (replicate (c .points) (pos 0)))) j) ≤ 131_399_680_001
+    → natAbs (at (sweep (rows c) 65536 i (passes (rows c) 65536 m (replicate (c .points) (pos 0)))) j) ≤ 131_399_680_000
 
 -- DESIGN 3.5, the sharp form: from bend numbers within b eighths, the position on a leg of h ticks is within 3×b×h×h / 2,097,152 + 1/2 of the exact spline
 abbrev pub PositionSharp : Type 0

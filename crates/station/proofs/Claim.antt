@@ -13,17 +13,15 @@ use Rattle.ends.specs.declared.EndKind.the-variants.{Free, Held, Closed}
 use Rattle.sheet.specs.Answers.{Told}
 use Rattle.sheet.specs.Bytes.{anyBelow}
 use Rattle.sheet.specs.Fields.{kind, points, legs, leg, ticks, waypoint}
-use Rattle.sheet.specs.Reading.{outside, readSheet}
-use Rattle.sheet.specs.Theorems.{Accepted}
+use Rattle.sheet.specs.Reading.{outside, readSheet, Accepted}
 use Rattle.sheet.specs.declared.Refusal.the-variants.{Shelf, Past, Adrift, Bend}
 use Rattle.sheet.proofs.ByKind.{legs-at-most}
 use Rattle.sheet.proofs.Laws.{accepted-read}
 use Rattle.answers.specs.Answers.{passOn, guard}
 use Rattle.systems.specs.Passes.{at, sweep}
 use Rattle.spline.specs.Spline as spline
-use Rattle.spline.specs.Spline.{Curve, Exact, next, valueAt}
+use Rattle.spline.specs.Spline.{Curve, Exact, next, valueAt, bends}
 use Rattle.spline.specs.Position.{position, Near}
-use Rattle.spline.specs.Theorems.{bends}
 use Rattle.spline.proofs.Existence.{spline-exists}
 use Rattle.spline.proofs.OneCurve.{one-curve}
 use Rattle.spline.proofs.Bends.{bends-bounded, position-near}

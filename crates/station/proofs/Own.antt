@@ -10,8 +10,7 @@ use lib.Seq.{getD-take, getD-append-add, take-at}
 use Rattle.sheet.specs.Fields.{points}
 use Rattle.systems.specs.Passes.{at}
 use Rattle.systems.proofs.Lists.{length-passes}
-use Rattle.spline.specs.Spline.{Course, rows}
-use Rattle.spline.specs.Theorems.{bends}
+use Rattle.spline.specs.Spline.{Course, rows, bends}
 use Rattle.layout.specs.Course.{course}
 use Rattle.layout.specs.Layout.{allBends}
 use Rattle.layout.proofs.Outcomes.{done-list}

@@ -11,11 +11,10 @@ use Rattle.ends.specs.declared.EndKind.{EndKind}
 use Rattle.ends.specs.declared.EndKind.the-variants.{Free, Held, Closed}
 use Rattle.sheet.specs.Answers.{Told}
 use Rattle.sheet.specs.Fields.{kind, points, ticks}
-use Rattle.sheet.specs.Theorems.{Accepted}
+use Rattle.sheet.specs.Reading.{Accepted}
 use Rattle.answers.specs.Answers.{done}
-use Rattle.spline.specs.Spline.{Curve, Exact, SameCurve, valueAt}
+use Rattle.spline.specs.Spline.{Curve, Exact, SameCurve, valueAt, ExactSpline}
 use Rattle.spline.specs.Position.{Near}
-use Rattle.spline.specs.Theorems.{ExactSpline}
 use Rattle.layout.specs.Course.{course}
 use Rattle.layout.specs.Layout.{allBends, layOut, laidOut}
 use Rattle.runner.specs.Ticks.{spotAt}

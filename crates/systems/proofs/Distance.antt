@@ -72,13 +72,12 @@ module _ (k : ℕ) (R : Rows) (c Q : ℕ) (zs : List ℤ) (g : Passing k R c Q z
       ))
       (g .small i h) rounds (l (R .prev i) (d .prev-fits i h)) (l (R .next i) (d .next-fits i h))
 
-  -- even Q: `PassesBounded` leaves 1 to spare
-  pub numbers-bounded : (m i j : ℕ) → i ≤ R .size → j < R .size → natAbs (at (sweep R c i (passes R c m zs)) j) ≤ Q
+  numbers-bounded : (m i j : ℕ) → i ≤ R .size → j < R .size → natAbs (at (sweep R c i (passes R c m zs)) j) ≤ Q
   numbers-bounded = sweeps-hold R c Small (record { weaker = λ m j z h. h; new = small-new; old = λ m i z h p l. l }) zs (g .room)
       (λ j h. rw (g .zeros j h) (omega arith))
 
 pub passes-bounded : PassesBounded
-passes-bounded k R c Q zs g m i j h f = omega (arith, numbers-bounded k R c Q zs g m i j h f)
+passes-bounded = numbers-bounded
 
 -- ---- the distance from an exact solution
 -- the arithmetic of a step: distances p, q of the neighbours, e of the new number, to which rounding adds s; P is 2^m

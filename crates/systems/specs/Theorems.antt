@@ -39,10 +39,10 @@ abbrev pub FortyPassesNear : Type 0
 FortyPassesNear = (k : ℕ) (R : Rows) (c Q : ℕ) (zs : List ℤ) → Passing k R c Q zs → 8 * Q ≤ 2 ^ 40 → (D : ℕ) (x : ℕ → ℤ) → Solves R D x
     → (i : ℕ) → i < R .size → 8 * natAbs (pos D *ℤ at (passes R c 40 zs) i -ℤ pos c *ℤ x i) ≤ 9 * D
 
--- DESIGN 3.3, sizes: every number in every pass, also half way through one (as far as i), is at most Q + 1 in size.
+-- sizes: every number in every pass, also half way through one (as far as i), is at most Q
 abbrev pub PassesBounded : Type 0
 PassesBounded = (k : ℕ) (R : Rows) (c Q : ℕ) (zs : List ℤ) → Passing k R c Q zs
-    → (m i j : ℕ) → i ≤ R .size → j < R .size → natAbs (at (sweep R c i (passes R c m zs)) j) ≤ Q + 1
+    → (m i j : ℕ) → i ≤ R .size → j < R .size → natAbs (at (sweep R c i (passes R c m zs)) j) ≤ Q
 
 -- a pass that changes nothing is followed by passes that change nothing: to end early gives the same numbers as going on to m
 abbrev pub EarlyEnd : Type 0

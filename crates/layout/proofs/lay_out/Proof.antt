@@ -9,13 +9,11 @@ use lib.ListN.{length, drop}
 use Rattle.ends.specs.declared.EndKind.{EndKind}
 use Rattle.sheet.specs.Answers.{refused}
 use Rattle.sheet.specs.Fields.{kind, points}
-use Rattle.sheet.specs.Reading.{readSheet}
-use Rattle.sheet.specs.Theorems.{Accepted}
+use Rattle.sheet.specs.Reading.{readSheet, Accepted}
 use Rattle.sheet.specs.declared.Refusal.the-variants.{Shelf}
 use Rattle.sheet.specs.declared.Reading.the-variants.{Refused}
 use Rattle.sheet.proofs.Told.{told-injective}
 use Rattle.sheet.proofs.Laws.{course-read, accepted-bounds}
-use Rattle.answers.specs.Answers.{refusalOf}
 use Rattle.layout.specs.Inside.{OnSheet}
 use Rattle.layout.specs.Layout.{allBends}
 use Rattle.layout.proofs.Given.{few-points}
@@ -67,7 +65,7 @@ returns c =
     let r = t .enum-told .given .0 .0 in
     let e : readSheet S ≡ Refused r = sym (told-injective (a .read .result) (readSheet S) (a .read .ensures)) ∙ t .enum-told .given .1 in
     let f = refused-answer S (length L) r e in
-    (ap refused (c .refusal-of .ensures ∙ ap refusalOf (t .enum-told .given .1)) ∙ sym f, sym (refused-list S L r f))
+    (ap refused (c .refusal-of .ensures r (t .enum-told .given .1)) ∙ sym f, sym (refused-list S L r f))
 
 mul-if1 : tie.Need-mul-if1
 mul-if1 c = record { fits = omega (arith, few-points (on-sheet (c .before) 0 (omega arith))) }

@@ -24,10 +24,10 @@ module _ (s : tie.Start) where
   m : Made (s .args .row .middle) (s .args .row .middle) 67_108_864
   m = given refl (s .pre .0 .middle) tt
 
-  x : Made (s .args .left) (s .args .left) 131_399_680_001
+  x : Made (s .args .left) (s .args .left) 131_399_680_000
   x = given refl (s .pre .1) tt
 
-  y : Made (s .args .next) (s .args .next) 131_399_680_001
+  y : Made (s .args .next) (s .args .next) 131_399_680_000
   y = given refl (s .pre .2) tt
 
 mul-rounded : tie.Need-mul-rounded
