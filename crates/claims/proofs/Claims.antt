@@ -1,0 +1,62 @@
+-- The one proof of all claims: it names each theorem.
+use Rattle.sheet.proofs.Laws.{read-or-refused, read-accepted, accepted-bounds}
+use Rattle.systems.proofs.Size.{unique, solution-bounded}
+use Rattle.systems.proofs.Existence.{solvable}
+use Rattle.systems.proofs.Distance.{passes-near, forty-passes-near, passes-bounded}
+use Rattle.systems.proofs.Lists.{early-end}
+use Rattle.spline.proofs.RowsFollow.{rows-follow}
+use Rattle.spline.proofs.Existence.{spline-exists}
+use Rattle.spline.proofs.OneCurve.{one-curve}
+use Rattle.spline.proofs.Bends.{bends-near, bends-bounded, position-near}
+use Rattle.spline.proofs.Distance.{position-sharp}
+use Rattle.layout.proofs.Near.{course-in-bounds, laid-out-near}
+use Rattle.runner.proofs.Standing.{tick-stands, one-runner}
+use Rattle.runner.proofs.Onward.{closed-steps, open-steps, step-before}
+use Rattle.place.proofs.Waypoints.{tick-is-runner, leg-ends-met, waypoint-met-at-tick, waypoint-met-by-runner}
+use Rattle.station.proofs.Claim.{claim}
+use Rattle.courses.proofs.Starred.{starred-right}
+use Rattle.claims.specs.Claims.{Claims}
+use Rattle.claims.proofs.Refused.{refusal-passed-on, refused-keeps-list, refused-keeps-record}
+
+pub claims : Claims
+claims = record {
+  demand1 = record {
+    read-or-refused = read-or-refused;
+    read-accepted = read-accepted;
+    refusal-passed-on = refusal-passed-on;
+    refused-keeps-list = refused-keeps-list;
+    refused-keeps-record = refused-keeps-record;
+  };
+  demand2 = record {
+    accepted-bounds = accepted-bounds;
+    tick-is-runner = tick-is-runner;
+    laid-out-near = laid-out-near;
+    tick-stands = tick-stands;
+    leg-ends-met = leg-ends-met;
+    waypoint-met-at-tick = waypoint-met-at-tick;
+    waypoint-met-by-runner = waypoint-met-by-runner;
+    one-runner = one-runner;
+    closed-steps = closed-steps;
+    open-steps = open-steps;
+    step-before = step-before;
+    starred-right = starred-right;
+  };
+  demand3 = claim;
+  theory = record {
+    solvable = solvable;
+    unique = unique;
+    solution-bounded = solution-bounded;
+    passes-near = passes-near;
+    forty-passes-near = forty-passes-near;
+    passes-bounded = passes-bounded;
+    early-end = early-end;
+    rows-follow = rows-follow;
+    spline-exists = spline-exists;
+    one-curve = one-curve;
+    course-in-bounds = course-in-bounds;
+    bends-near = bends-near;
+    bends-bounded = bends-bounded;
+    position-sharp = position-sharp;
+    position-near = position-near;
+  };
+}

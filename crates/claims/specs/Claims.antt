@@ -1,0 +1,75 @@
+-- Every theorem that docs/CLAIMS.md claims: a field for each, its type the statement, in the order of docs/REQUIREMENTS.md. The three demands are
+-- three records; demand 3 is `Claim`. The one proof is proofs/Claims.antt, so that a statement that loses its proof breaks the gate.
+use Rattle.sheet.specs.Theorems.{ReadOrRefused, ReadAccepted, AcceptedBounds}
+use Rattle.systems.specs.Theorems.{Solvable, Unique, SolutionBounded, PassesNear, FortyPassesNear, PassesBounded, EarlyEnd}
+use Rattle.spline.specs.Theorems.{RowsFollow, SplineExists, OneCurve, BendsNear, BendsBounded, PositionSharp, PositionNear}
+use Rattle.layout.specs.Theorems.{CourseInBounds, LaidOutNear}
+use Rattle.runner.specs.Theorems.{TickStands, OneRunner, ClosedSteps, OpenSteps, StepBefore}
+use Rattle.place.specs.Theorems.{LegEndsMet, WaypointMetAtTick, WaypointMetByRunner, TickIsRunner}
+use Rattle.station.specs.Claim.{Claim}
+use Rattle.courses.specs.Starred.{StarredRight}
+use Rattle.claims.specs.Refused.{RefusalPassedOn, RefusedKeepsList, RefusedKeepsRecord}
+
+-- D1: a bad input gets its number, and a refused call changes nothing. (That calls end and are safe is proved of every function, by the checker itself.)
+pub record Demand1 : Type 0 where
+  -- A1, A2: a sheet is read, or refused by the lowest number that applies
+  pub read-or-refused : ReadOrRefused
+  -- A2, A10: what is read is accepted, and the answer is its fields
+  pub read-accepted : ReadAccepted
+  -- A8
+  pub refusal-passed-on : RefusalPassedOn
+  -- A9
+  pub refused-keeps-list : RefusedKeepsList
+  pub refused-keeps-record : RefusedKeepsRecord
+
+-- D2: rules to the last digit, waypoints met, runners where the count says
+pub record Demand2 : Type 0 where
+  -- S9, N4 to N8: the bounds of an accepted sheet
+  pub accepted-bounds : AcceptedBounds
+  -- A4, A5: the place by tick is the place of the tick's runner
+  pub tick-is-runner : TickIsRunner
+  -- L6
+  pub laid-out-near : LaidOutNear
+  -- P3, P4
+  pub tick-stands : TickStands
+  -- P5
+  pub leg-ends-met : LegEndsMet
+  pub waypoint-met-at-tick : WaypointMetAtTick
+  pub waypoint-met-by-runner : WaypointMetByRunner
+  -- M1, M3: no two runners stand at one tick
+  pub one-runner : OneRunner
+  -- M4
+  pub closed-steps : ClosedSteps
+  -- M5
+  pub open-steps : OpenSteps
+  -- N13, K7: landed is said at the last tick alone
+  pub step-before : StepBefore
+  -- W1 to W9
+  pub starred-right : StarredRight
+
+-- What demand 3 rests on, step by step (docs/THEORY.md)
+pub record Theory : Type 0 where
+  -- rows
+  pub solvable : Solvable
+  pub unique : Unique
+  pub solution-bounded : SolutionBounded
+  pub passes-near : PassesNear
+  pub forty-passes-near : FortyPassesNear
+  pub passes-bounded : PassesBounded
+  pub early-end : EarlyEnd
+  -- E5
+  pub rows-follow : RowsFollow
+  pub spline-exists : SplineExists
+  pub one-curve : OneCurve
+  pub course-in-bounds : CourseInBounds
+  pub bends-near : BendsNear
+  pub bends-bounded : BendsBounded
+  pub position-sharp : PositionSharp
+  pub position-near : PositionNear
+
+pub record Claims : Type 0 where
+  pub demand1 : Demand1
+  pub demand2 : Demand2
+  -- D3: C1 to C9
+  pub demand3 : Claim
+  pub theory : Theory

@@ -1,0 +1,34 @@
+-- What a refused call leaves behind, said of the definitions that the entry points' promises cite (A8, A9). For Claims.
+use mathlib.Core.Path.{_≡_}
+use mathlib.Core.List.{List}
+use Prim.Native.Nat.{ℕ}
+use lib.IntN.{ℤ}
+use lib.ListN.{length}
+use Rattle.sheet.specs.Answers.{refused}
+use Rattle.sheet.specs.Reading.{readSheet}
+use Rattle.sheet.specs.declared.Reading.the-variants.{Refused}
+use Rattle.sheet.specs.declared.Refusal.{Refusal}
+use Rattle.layout.specs.Layout.{layOut, laidOut}
+use Rattle.runner.specs.Ticks.{runnerAtTick}
+use Rattle.runner.specs.Steps.{stepped, onward}
+use Rattle.runner.specs.declared.Runner.{Runner}
+use Rattle.place.specs.Places.{placeAtTick, placeOfRunner}
+
+-- A8: where reading refuses the sheet, each call answers that refusal and nothing else
+pub record PassedOn (s : List ℕ) (q : Refusal) : Type 0 where
+  pub laying : (room : ℕ) → layOut s room ≡ refused q
+  pub by-tick : (list : List ℤ) (t : ℕ) → placeAtTick s list t ≡ refused q
+  pub by-runner : (list : List ℤ) (r : Runner) → placeOfRunner s list r ≡ refused q
+  pub from-tick : (t : ℕ) → runnerAtTick s t ≡ refused q
+  pub step : (r : Runner) → stepped s r ≡ refused q
+
+abbrev pub RefusalPassedOn : Type 0
+RefusalPassedOn = (s : List ℕ) (q : Refusal) → readSheet s ≡ Refused q → PassedOn s q
+
+-- A9: a refused laying out leaves the list as it was ..
+abbrev pub RefusedKeepsList : Type 0
+RefusedKeepsList = (s : List ℕ) (list : List ℤ) → ¬ (layOut s (length list) .number ≡ 0) → laidOut s list ≡ list
+
+-- .. and a refused step the record
+abbrev pub RefusedKeepsRecord : Type 0
+RefusedKeepsRecord = (s : List ℕ) (r : Runner) → ¬ (stepped s r .number ≡ 0) → onward s r ≡ r
