@@ -103,7 +103,7 @@ def room_beside(canvas, cell, length, numbered):
 def plan(flight, columns, rows, colour):
     """North up, east to the right, one scale for both."""
     (south, north), (west, east) = flight.range(0), flight.range(1)
-    step = nice(north - south, max(rows // 4, 2))
+    step = nice(north - south, max(rows // 3, 2))
     names = [metres(value, step) for value in multiples(step, south, north)]
     margin = max(map(len, names), default=0) + 2
     wide = max(columns - margin, 4)

@@ -25,7 +25,8 @@ STYLE = """
   .waypoint { fill: #ffffff; stroke: #12608c; stroke-width: 1.3; }
   .place { fill: #12608c; }
   .first { fill: #f0a92b; stroke: #7a4d00; stroke-width: 1.5; }
-  .number { font-size: 9.5px; fill: #24404f; }
+  .many { font-size: 9.5px; fill: #24404f; }
+  .few { font-size: 13px; font-weight: bold; fill: #24404f; }
 """
 
 
@@ -111,10 +112,12 @@ def seconds(flight, frame, room):
     named = 600 * math.ceil(flight.ticks / 600 / 16)
     for tick in range(100, flight.ticks + 1, 100):
         x, y = frame.at(flight.places[tick][1], -flight.places[tick][0])
-        (east, south), half = heading(flight, tick), 7 if tick % 600 == 0 else 4
-        yield f'<line class="second" x1="{x - half * south:.2f}" y1="{y + half * east:.2f}" x2="{x + half * south:.2f}" y2="{y - half * east:.2f}"/>'
+        (east, south), half = heading(flight, tick), 11 if tick % 600 == 0 else 7
+        ends = (x - half * south, y + half * east), (x + half * south, y - half * east)
+        room.line(ends)
+        yield '<line class="second" x1="{:.2f}" y1="{:.2f}" x2="{:.2f}" y2="{:.2f}"/>'.format(*ends[0], *ends[1])
         if tick % named == 0:
-            yield from beside(room, (x, y), sides(flight, tick), f"{tick // 600} min", "minute", 7.4, 11)
+            yield from beside(room, (x, y), sides(flight, tick), f"{tick // 600} min", "minute", 7.4, 11, 14)
 
 
 def sides(flight, tick):
@@ -130,10 +133,10 @@ def sides(flight, tick):
     return [outside, right if outside == left else left, (0.7, -0.7), (0.7, 0.7), (-0.7, -0.7), (-0.7, 0.7)]
 
 
-def beside(room, point, towards, text, kind, letter, tall):
+def beside(room, point, towards, text, kind, letter, tall, gap):
     """Text next to a point, near it or a little farther off; none where there is no room."""
     wide = letter * len(text)
-    for away in (6, 14, 22):
+    for away in (gap, gap + 7, gap + 15):
         for side in towards:
             left = point[0] + side[0] * (wide / 2 + away) - wide / 2
             top = point[1] + side[1] * (tall / 2 + away) - tall / 2
@@ -163,8 +166,9 @@ def waypoints(flight, frame, room):
         size, kind = (5, "first") if number == 0 else (3, "waypoint")
         told = f"waypoint {number}, tick {tick}: north {place[0]}, east {place[1]}, up {place[2]}"
         yield f'<circle class="{kind}" cx="{x:.2f}" cy="{y:.2f}" r="{size}"><title>{told}</title></circle>'
+    kind, letter, tall = ("few", 8.5, 11) if len(points) <= 40 else ("many", 6, 8)
     for number, ((x, y), tick, _) in enumerate(points):
-        yield from beside(room, (x, y), sides(flight, tick), str(number), "number", 6, 8)
+        yield from beside(room, (x, y), sides(flight, tick), str(number), kind, letter, tall, 7)
 
 
 def numbers(step, low, high, sign=1):
