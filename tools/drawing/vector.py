@@ -98,9 +98,9 @@ def heading(flight, tick):
 
 
 def plan_frame(flight):
-    """The whole flight with some ground around it. A tall one gets more ground at its sides, a flat one above and below."""
+    """The whole flight with some ground around it, a metre where it stays at a point. A tall one gets more at its sides, a flat one above and below."""
     (south, north), (west, east) = flight.range(0), flight.range(1)
-    room, wide = max(north - south, east - west, 1) * 0.06, PAGE - LEFT - RIGHT
+    room, wide = max(north - south, east - west) * 0.06 or 1000, PAGE - LEFT - RIGHT
     tall = min(max(wide * (north - south + 2 * room) / (east - west + 2 * room), LOWEST), TALLEST)
     half = max(east - west + 2 * room, (north - south + 2 * room) * wide / tall) / 2
     middle, height = (west + east) / 2, 2 * half * tall / wide
