@@ -1,7 +1,7 @@
 //! Compiles the C files with gcc (no outside crate) and links the station's library.
 //!
-//! STATION_LIBRARY names the library: a path to an archive (default: target/staticlib/libexports.a of the repository), or the
-//! word `base`, which puts c/base.c in its place under the names station_*.
+//! STATION_LIBRARY names the library: a path to an archive (default: target/staticlib/libstation.a of the repository, which tools/archive
+//! makes), or the word `base`, which puts c/base.c in its place under the names station_*.
 
 mod room {
     include!("src/room.rs");
@@ -47,14 +47,14 @@ fn main() {
     compile(&here, &out, "careful.c", "careful", &["-O3"]);
     compile(&here, &out, "pcuspl.c", "pcuspl", &[]);
 
-    let default = here.join("../target/staticlib/libexports.a").display().to_string();
+    let default = here.join("../target/staticlib/libstation.a").display().to_string();
     let library = env::var("STATION_LIBRARY").unwrap_or(default);
     if library == "base" {
         compile(&here, &out, "base.c", "standin", &["-DNAME(call)=station_##call"]);
         println!("cargo:rustc-env=STATION_LIBRARY_NAME=the stand-in c/base.c");
     } else {
         let library = std::fs::canonicalize(&library)
-            .unwrap_or_else(|error| panic!("no library at {library} ({error}): run ./evidence, or set STATION_LIBRARY=base"));
+            .unwrap_or_else(|error| panic!("no library at {library} ({error}): run tools/archive, or set STATION_LIBRARY=base"));
         let name = library.file_stem().unwrap().to_str().unwrap().trim_start_matches("lib").to_string();
         println!("cargo:rerun-if-changed={}", library.display());
         println!("cargo:rustc-link-search=native={}", library.parent().unwrap().display());

@@ -1,18 +1,27 @@
-/* The route station's curve: the C boundary of the proved library (target/staticlib/libexports.a, made by `rt staticlib exports`).
+/* The route station's curve for C99 and later, and C++11 and later: the functions of the proved library libstation.a.
+ * `tools/archive` makes the library, `tools/install PREFIX` installs both; examples/fly.c flies a course with them.
+ * N6, A4 and the like are clauses of docs/REQUIREMENTS.md.
  *
- * Every call answers 0 (STATION_DONE), or the number of the refusal: the lowest one that applies, of those that the call tests.
- * A refused call changes no byte and no number that was lent to it. Results go to the first places of out, the others keep what they
- * held; where out has fewer places than there are results, the number is the same and nothing is written. The library keeps nothing
- * between calls, takes no memory of its own beyond the stack, and may be called from several threads at once on different lists.
+ * Units: ten ticks are a second; north, east and up are millimetres seen from the home post, in whole numbers. N, L and P stand for the
+ * counts of waypoints, of legs, and of ticks on all legs together.
  *
- * A slice is lent as a pointer, then its length in elements. What the caller owes:
- *   - the pointer is not null (also where the length is 0), is aligned for its element, and is good for that many elements;
- *   - a slice that a call writes (out, list of station_lay_out, runner) overlaps no other slice of the same call;
- *   - nobody else writes the slices while the call runs.
- * No value in them can stop the library: damaged sheets, short lists and foreign numbers are answered with a number.
+ * Answers (A1, A9): STATION_DONE, or the least number of the refusals that this call looks for and finds. A refused call leaves all that
+ * it was lent as it was. There is no state behind the calls, no heap, no global variable and no errno; threads may call at the same time.
  *
- * A tick is a tenth of a second, lengths are whole millimetres from the home post, N is the sheet's number of waypoints,
- * L its number of legs (N - 1, closed: N) and P the sum of the legs in ticks.
+ * A slice is a pointer, followed by how many elements there are. Any bytes and numbers may stand in it (D1). The caller owes that
+ *   - its pointer is never null, even for no elements, is aligned as its type wants, and reaches over all the elements;
+ *   - what a call writes (out; list when laying out; the runner of a step) shares no memory with another slice of that call;
+ *   - no other thread writes a slice during the call.
+ * Results fill out from its start, and nothing after them is touched. An out that is too short stays as it was although the answer is the
+ * same: the functions over structs, further down, cannot be called with a short out.
+ *
+ * The archive, as `tools/measure` prints it (`tools/measure --write` renews these lines):
+ * [measured]
+ *   format:           elf64-x86-64, for Linux (System V calls)
+ *   outside symbols:  memset
+ *   code:             4317 bytes with constants, data 0, zeroed data 0
+ *   deepest stack:    272 bytes (read 136, lay_out 272, place_at_tick 248, place_of_runner 248, runner_at_tick 152, step 168)
+ * [/measured]
  */
 #ifndef STATION_H
 #define STATION_H
@@ -20,59 +29,188 @@
 #include <stddef.h>
 #include <stdint.h>
 
+/* The version of this header and its library. MAJOR moves where a correct caller may have to change, MINOR where functions or numbers are
+ * added. */
+#define STATION_VERSION_MAJOR 1
+#define STATION_VERSION_MINOR 0
+#define STATION_VERSION_PATCH 0
+#define STATION_VERSION "1.0.0"
+
+/* Asks gcc and clang to warn where an answer is dropped or a null pointer is handed over; nothing to other compilers. */
+#if defined(__GNUC__)
+#define STATION_CHECKED __attribute__((warn_unused_result, nonnull))
+#else
+#define STATION_CHECKED
+#endif
+
 #ifdef __cplusplus
 extern "C" {
 #endif
 
-/* The named numbers. */
+/* The refusals by number (group N). */
 enum {
-    STATION_DONE = 0,     /* no refusal */
-    STATION_TORN = 1,     /* under 8 bytes, or bytes 0 to 3 differ from the slice's length */
-    STATION_EDITION = 2,  /* version is not 1 */
-    STATION_ENDS = 3,     /* end kind above 2 */
-    STATION_POINTS = 4,   /* N outside 2 to 512 (free, held) or 3 to 512 (closed) */
-    STATION_SIZE = 5,     /* the length is not 8 + 2L + 12N, and 24 more for held ends */
-    STATION_LEG = 6,      /* a leg outside 1 to 256 */
-    STATION_REACH = 7,    /* a waypoint number outside -1,000,000 to 1,000,000 */
-    STATION_SLOPE = 8,    /* a slope outside -5,000 to 5,000 */
-    STATION_SHELF = 9,    /* the list of bend numbers has fewer than 3N places */
-    STATION_PAST = 10,    /* open course, tick above its last */
-    STATION_ADRIFT = 11,  /* the runner's leg or offset doesn't fit the sheet */
-    STATION_BEND = 12,    /* one of the six bend numbers at the leg's two ends lies outside -2^37 to 2^37 */
-    STATION_LANDED = 13   /* an open course's runner is already at its last tick */
+    STATION_DONE = 0,     /* not refused */
+    STATION_TORN = 1,     /* N1: no room for the header, or its count of bytes is not the slice's */
+    STATION_EDITION = 2,  /* N2: a version other than 1 */
+    STATION_ENDS = 3,     /* N3: no such kind of ends */
+    STATION_POINTS = 4,   /* N4: over 512 waypoints, or fewer than 2, closed: fewer than 3 */
+    STATION_SIZE = 5,     /* N5: too many or too few bytes for that kind and N (8 + 2L + 12N; held: 24 more) */
+    STATION_LEG = 6,      /* N6: a leg of 0 or over 256 ticks */
+    STATION_REACH = 7,    /* N7: a waypoint over 1,000,000 mm from home on some axis */
+    STATION_SLOPE = 8,    /* N8: a slope over 5,000 mm per tick in size */
+    STATION_SHELF = 9,    /* N9: the list is shorter than 3N */
+    STATION_PAST = 10,    /* N10: the tick is over P, on an open course */
+    STATION_ADRIFT = 11,  /* N11: no such leg, or the offset is beyond it */
+    STATION_BEND = 12,    /* N12: at an end of the leg, a bend number over 2^37 in size */
+    STATION_LANDED = 13   /* N13: the runner has come to the end of an open course */
 };
 
-/* The end kinds. */
+/* The kinds of ends (S4). */
 enum { STATION_FREE = 0, STATION_HELD = 1, STATION_CLOSED = 2 };
 
-/* The longest sheet in bytes, and the longest list of bend numbers that is needed. */
+/* How long an accepted sheet can be, in bytes (S9), and how long a list it can ask for, in numbers (N9): sizes for arrays. */
 enum { STATION_LONGEST_SHEET = 7198, STATION_LONGEST_LIST = 1536 };
 
-/* Reads a sheet. Tests 1 to 8.
- * out: the end kind, N, P. */
-uint64_t station_read(const uint8_t *sheet, size_t sheet_length, uint64_t *out, size_t out_length);
+/* Reads a sheet. Tests 1-8 (A2). Results: kind of ends, N, P. */
+STATION_CHECKED uint64_t station_read(const uint8_t *sheet, size_t sheet_length, uint64_t *out, size_t out_length);
 
-/* Lays the bend numbers out: north fills the first N places of list, east the next N, up the N after those; places beyond 3N
- * keep what they held. Tests 1 to 9. */
-uint64_t station_lay_out(const uint8_t *sheet, size_t sheet_length, int64_t *list, size_t list_length);
+/* Lays out the sheet's bend numbers in a list: N for north, then N for east, then N for up (L5). Tests 1-9 (A3). */
+STATION_CHECKED uint64_t station_lay_out(const uint8_t *sheet, size_t sheet_length, int64_t *list, size_t list_length);
 
-/* The place at a tick, with the bend numbers in list. Tests 1 to 10 and 12. A closed course answers every tick.
- * out: north, east, up. */
-uint64_t station_place_at_tick(const uint8_t *sheet, size_t sheet_length, const int64_t *list, size_t list_length,
-                               uint64_t tick, int64_t *out, size_t out_length);
+/* The place at a tick, by a list that was laid out for this sheet; a closed course has a place at any tick (P4). Tests 1-10 and 12 (A4).
+ * Results: north, east, up. */
+STATION_CHECKED uint64_t station_place_at_tick(const uint8_t *sheet, size_t sheet_length, const int64_t *list, size_t list_length,
+                                               uint64_t tick, int64_t *out, size_t out_length);
 
-/* The place of a runner, given by its leg (counted from 0) and its offset in ticks. Tests 1 to 9, 11 and 12.
- * out: north, east, up. */
-uint64_t station_place_of_runner(const uint8_t *sheet, size_t sheet_length, const int64_t *list, size_t list_length,
-                                 uint64_t leg, uint64_t offset, int64_t *out, size_t out_length);
+/* The place of a runner, legs counted from 0 (M1). Tests 1-9, 11, 12 (A5). Results: north, east, up. */
+STATION_CHECKED uint64_t station_place_of_runner(const uint8_t *sheet, size_t sheet_length, const int64_t *list, size_t list_length,
+                                                 uint64_t leg, uint64_t offset, int64_t *out, size_t out_length);
 
-/* The runner at a tick. Tests 1 to 8 and 10.
- * out: leg, offset. */
-uint64_t station_runner_at_tick(const uint8_t *sheet, size_t sheet_length, uint64_t tick, uint64_t *out, size_t out_length);
+/* The runner that stands at a tick. Tests 1-8 and 10 (A6). Results: leg, offset. */
+STATION_CHECKED uint64_t station_runner_at_tick(const uint8_t *sheet, size_t sheet_length, uint64_t tick, uint64_t *out, size_t out_length);
 
-/* Moves a runner on by one tick, in place. Tests 1 to 8, 11 and 13.
- * runner: leg, offset; a slice of fewer than two numbers holds no runner, which is adrift (11). */
-uint64_t station_step(const uint8_t *sheet, size_t sheet_length, uint64_t *runner, size_t runner_length);
+/* Moves a runner (leg, offset) on by a tick where it lies (M2). Tests 1-8, 11, 13 (A7). Fewer than two numbers are no runner: that is 11. */
+STATION_CHECKED uint64_t station_step(const uint8_t *sheet, size_t sheet_length, uint64_t *runner, size_t runner_length);
+
+/* The same calls with structs for what they answer. */
+
+struct station_course {
+    uint64_t kind;      /* STATION_FREE, STATION_HELD or STATION_CLOSED */
+    uint64_t waypoints; /* N; the list needs three times as many numbers */
+    uint64_t ticks;     /* P */
+};
+
+struct station_place {
+    int64_t north, east, up;
+};
+
+struct station_runner {
+    uint64_t leg, offset;
+};
+
+/* station_read, into a struct. */
+STATION_CHECKED static inline uint64_t station_read_into(const uint8_t *sheet, size_t sheet_length, struct station_course *course)
+{
+    uint64_t out[3] = {0, 0, 0};
+    uint64_t answer = station_read(sheet, sheet_length, out, 3);
+    if (answer == STATION_DONE) {
+        course->kind = out[0];
+        course->waypoints = out[1];
+        course->ticks = out[2];
+    }
+    return answer;
+}
+
+/* station_place_at_tick, into a struct. */
+STATION_CHECKED static inline uint64_t station_place_at_tick_into(const uint8_t *sheet, size_t sheet_length, const int64_t *list,
+                                                                  size_t list_length, uint64_t tick, struct station_place *place)
+{
+    int64_t out[3] = {0, 0, 0};
+    uint64_t answer = station_place_at_tick(sheet, sheet_length, list, list_length, tick, out, 3);
+    if (answer == STATION_DONE) {
+        place->north = out[0];
+        place->east = out[1];
+        place->up = out[2];
+    }
+    return answer;
+}
+
+/* station_place_of_runner, from a struct and into one. */
+STATION_CHECKED static inline uint64_t station_place_of_runner_into(const uint8_t *sheet, size_t sheet_length, const int64_t *list,
+                                                                    size_t list_length, struct station_runner runner,
+                                                                    struct station_place *place)
+{
+    int64_t out[3] = {0, 0, 0};
+    uint64_t answer = station_place_of_runner(sheet, sheet_length, list, list_length, runner.leg, runner.offset, out, 3);
+    if (answer == STATION_DONE) {
+        place->north = out[0];
+        place->east = out[1];
+        place->up = out[2];
+    }
+    return answer;
+}
+
+/* station_runner_at_tick, into a struct. */
+STATION_CHECKED static inline uint64_t station_runner_at_tick_into(const uint8_t *sheet, size_t sheet_length, uint64_t tick,
+                                                                   struct station_runner *runner)
+{
+    uint64_t out[2] = {0, 0};
+    uint64_t answer = station_runner_at_tick(sheet, sheet_length, tick, out, 2);
+    if (answer == STATION_DONE) {
+        runner->leg = out[0];
+        runner->offset = out[1];
+    }
+    return answer;
+}
+
+/* station_step, on a struct. */
+STATION_CHECKED static inline uint64_t station_step_runner(const uint8_t *sheet, size_t sheet_length, struct station_runner *runner)
+{
+    uint64_t record[2] = {runner->leg, runner->offset};
+    uint64_t answer = station_step(sheet, sheet_length, record, 2);
+    if (answer == STATION_DONE) {
+        runner->leg = record[0];
+        runner->offset = record[1];
+    }
+    return answer;
+}
+
+/* The word of an answer (group N), "done" for STATION_DONE, "unknown" for a number that this header does not name. */
+static inline const char *station_word(uint64_t answer)
+{
+    switch (answer) {
+    case STATION_DONE:
+        return "done";
+    case STATION_TORN:
+        return "torn";
+    case STATION_EDITION:
+        return "edition";
+    case STATION_ENDS:
+        return "ends";
+    case STATION_POINTS:
+        return "points";
+    case STATION_SIZE:
+        return "size";
+    case STATION_LEG:
+        return "leg";
+    case STATION_REACH:
+        return "reach";
+    case STATION_SLOPE:
+        return "slope";
+    case STATION_SHELF:
+        return "shelf";
+    case STATION_PAST:
+        return "past";
+    case STATION_ADRIFT:
+        return "adrift";
+    case STATION_BEND:
+        return "bend";
+    case STATION_LANDED:
+        return "landed";
+    default:
+        return "unknown";
+    }
+}
 
 #ifdef __cplusplus
 }
