@@ -1,0 +1,247 @@
+//! The route station's curve: a safe wrapper over the proved library `libstation.a` (`include/station.h`), without `std` and without
+//! other crates. N6, A4 and the like are clauses of the repository's `docs/REQUIREMENTS.md`.
+//!
+//! A *sheet* is a course as bytes. [`read`] tells what it holds, [`lay_out`] makes the bend numbers that the places need, and then
+//! [`place_at_tick`] tells where the course is at each tick. A [`Runner`] does the same for a drone that moves on tick by tick. Ten ticks
+//! are a second, and lengths are whole millimetres.
+//!
+//! Every function takes any bytes, lists and numbers (D1). What does not fit is answered with a [`Refusal`], and then nothing that was
+//! lent has changed (A9).
+//!
+//! ```
+//! let sheet = station::COURSE_A;
+//! let course = station::read(&sheet)?;
+//! let mut list = vec![0; course.list_length()];
+//! station::lay_out(&sheet, &mut list)?;
+//! let mut north = Vec::new();
+//! for tick in 0..=course.ticks {
+//!     north.push(station::place_at_tick(&sheet, &list, tick)?.north);
+//! }
+//! assert_eq!(north, [0, 6, 8, 6, 0]);
+//! # Ok::<(), station::Refusal>(())
+//! ```
+//!
+//! # The library
+//!
+//! `build.rs` links `libstation.a` from the folder that the variable `STATION_LIBRARY_DIR` names, or from `target/staticlib` of the
+//! repository that this crate is part of, where `tools/archive` makes it. The archive is for x86-64. Without the default feature `link`
+//! nothing is linked: the program then brings the six functions of [`raw`] itself.
+
+#![no_std]
+#![deny(missing_docs)]
+#![deny(unsafe_code)]
+
+#[allow(unsafe_code)]
+pub mod raw;
+mod refusal;
+
+pub use refusal::Refusal;
+
+/// How long an accepted sheet can be, in bytes (S9).
+pub const LONGEST_SHEET: usize = 7198;
+
+/// How long a list of bend numbers a sheet can ask for (N9): the size of an array that serves every course.
+pub const LONGEST_LIST: usize = 1536;
+
+/// Worked course A as a sheet, to try things on (T5): free ends, two legs of 2 ticks, the waypoints (0, 10, 20), (8, 10, 22), (0, 10, 24).
+#[rustfmt::skip]
+pub const COURSE_A: [u8; 48] = [
+    0, 0, 0, 48,  1,  0,  0, 3, // bytes, version, kind of ends, waypoints
+    0, 2,  0, 2, // legs
+    0, 0, 0, 0,  0, 0, 0, 10,  0, 0, 0, 20, // north, east, up
+    0, 0, 0, 8,  0, 0, 0, 10,  0, 0, 0, 22,
+    0, 0, 0, 0,  0, 0, 0, 10,  0, 0, 0, 24,
+];
+
+/// The kinds of ends (S4).
+#[derive(Clone, Copy, PartialEq, Eq, Hash, Debug)]
+pub enum EndKind {
+    /// Open; the curve runs out straight.
+    Free = 0,
+    /// Open; the sheet gives the slopes at both ends.
+    Held = 1,
+    /// The last leg leads back to the first waypoint.
+    Closed = 2,
+}
+
+/// What a sheet holds (A2).
+#[derive(Clone, Copy, PartialEq, Eq, Hash, Debug)]
+pub struct Course {
+    /// The kind of its ends.
+    pub kind: EndKind,
+    /// How many waypoints it has: N, 2 to 512.
+    pub waypoints: usize,
+    /// How many ticks all its legs take: P.
+    pub ticks: u64,
+}
+
+impl Course {
+    /// How many bend numbers its list has: three for each waypoint.
+    pub const fn list_length(&self) -> usize {
+        3 * self.waypoints
+    }
+}
+
+/// A place, in millimetres from the home post (P2).
+#[derive(Clone, Copy, PartialEq, Eq, Hash, Debug, Default)]
+pub struct Place {
+    /// To the north.
+    pub north: i64,
+    /// To the east.
+    pub east: i64,
+    /// Upwards.
+    pub up: i64,
+}
+
+impl From<[i64; 3]> for Place {
+    fn from([north, east, up]: [i64; 3]) -> Place {
+        Place { north, east, up }
+    }
+}
+
+impl From<Place> for [i64; 3] {
+    fn from(place: Place) -> [i64; 3] {
+        [place.north, place.east, place.up]
+    }
+}
+
+/// Where a drone stands on a course (M1). The default is the first waypoint.
+#[derive(Clone, Copy, PartialEq, Eq, Hash, Debug, Default)]
+pub struct Runner {
+    /// The leg, counted from 0.
+    pub leg: u64,
+    /// The ticks since the leg's start.
+    pub offset: u64,
+}
+
+/// Reads a sheet. Tests 1-8 (A2).
+///
+/// ```
+/// use station::{Course, EndKind, Refusal};
+///
+/// // two waypoints, (0, 0, 0) and (16, 0, 0), a leg of 4 ticks; held, with slopes of 0
+/// let mut sheet = [0; 58];
+/// sheet[3] = 58;
+/// sheet[4] = 1;
+/// sheet[5] = 1;
+/// sheet[7] = 2;
+/// sheet[9] = 4;
+/// sheet[25] = 16;
+/// assert_eq!(station::read(&sheet), Ok(Course { kind: EndKind::Held, waypoints: 2, ticks: 4 }));
+/// sheet[9] = 0;
+/// assert_eq!(station::read(&sheet), Err(Refusal::Leg));
+/// ```
+#[inline]
+pub fn read(sheet: &[u8]) -> Result<Course, Refusal> {
+    let mut out = [0; 3];
+    done(raw::read(sheet, &mut out))?;
+    // an accepted sheet's kind is 0, 1 or 2 (N3)
+    let kind = match out[0] {
+        0 => EndKind::Free,
+        1 => EndKind::Held,
+        _ => EndKind::Closed,
+    };
+    Ok(Course { kind, waypoints: out[1] as usize, ticks: out[2] })
+}
+
+/// Lays out the sheet's bend numbers in a list: north's, then east's, then up's; what the list holds beyond them stays (L5). Tests 1-9 (A3).
+///
+/// ```
+/// use station::COURSE_A;
+///
+/// // one number more than it needs
+/// let mut list = [7; 10];
+/// station::lay_out(&COURSE_A, &mut list)?;
+/// assert_eq!(list, [0, -65_536, 0, 0, 0, 0, 0, 0, 0, 7]);
+/// assert_eq!(station::lay_out(&COURSE_A, &mut list[..8]), Err(station::Refusal::Shelf));
+/// # Ok::<(), station::Refusal>(())
+/// ```
+#[inline]
+pub fn lay_out(sheet: &[u8], list: &mut [i64]) -> Result<(), Refusal> {
+    done(raw::lay_out(sheet, list))
+}
+
+/// The place at a tick, by a list that was laid out for this sheet; a closed course has a place at any tick (P4). Tests 1-10 and 12 (A4).
+///
+/// ```
+/// use station::{COURSE_A, Place, Refusal};
+///
+/// // a list that serves every course
+/// let mut list = [0; station::LONGEST_LIST];
+/// station::lay_out(&COURSE_A, &mut list)?;
+/// assert_eq!(station::place_at_tick(&COURSE_A, &list, 1)?, Place { north: 6, east: 10, up: 21 });
+/// assert_eq!(station::place_at_tick(&COURSE_A, &list, 5), Err(Refusal::Past));
+/// # Ok::<(), station::Refusal>(())
+/// ```
+#[inline]
+pub fn place_at_tick(sheet: &[u8], list: &[i64], tick: u64) -> Result<Place, Refusal> {
+    let mut out = [0; 3];
+    done(raw::place_at_tick(sheet, list, tick, &mut out))?;
+    Ok(out.into())
+}
+
+/// The place of a runner, by a list that was laid out for this sheet. Tests 1-9, 11, 12 (A5).
+///
+/// ```
+/// use station::{COURSE_A, Place, Refusal, Runner};
+///
+/// let mut list = [0; 9];
+/// station::lay_out(&COURSE_A, &mut list)?;
+/// let runner = Runner { leg: 1, offset: 1 };
+/// assert_eq!(station::place_of_runner(&COURSE_A, &list, runner)?, Place { north: 6, east: 10, up: 23 });
+/// assert_eq!(station::place_of_runner(&COURSE_A, &list, Runner { leg: 2, offset: 0 }), Err(Refusal::Adrift));
+/// # Ok::<(), station::Refusal>(())
+/// ```
+#[inline]
+pub fn place_of_runner(sheet: &[u8], list: &[i64], runner: Runner) -> Result<Place, Refusal> {
+    let mut out = [0; 3];
+    done(raw::place_of_runner(sheet, list, runner.leg, runner.offset, &mut out))?;
+    Ok(out.into())
+}
+
+/// The runner that stands at a tick. Tests 1-8 and 10 (A6).
+///
+/// ```
+/// use station::{COURSE_A, Runner};
+///
+/// // at tick 2 the second leg starts; the last tick is the full second leg (P3)
+/// assert_eq!(station::runner_at_tick(&COURSE_A, 2)?, Runner { leg: 1, offset: 0 });
+/// assert_eq!(station::runner_at_tick(&COURSE_A, 4)?, Runner { leg: 1, offset: 2 });
+/// # Ok::<(), station::Refusal>(())
+/// ```
+#[inline]
+pub fn runner_at_tick(sheet: &[u8], tick: u64) -> Result<Runner, Refusal> {
+    let mut out = [0; 2];
+    done(raw::runner_at_tick(sheet, tick, &mut out))?;
+    let [leg, offset] = out;
+    Ok(Runner { leg, offset })
+}
+
+/// Moves a runner on by a tick (M2). Tests 1-8, 11, 13 (A7).
+///
+/// ```
+/// use station::{COURSE_A, Refusal, Runner};
+///
+/// // it takes four ticks
+/// let mut runner = Runner::default();
+/// for _ in 0..4 {
+///     station::step(&COURSE_A, &mut runner)?;
+/// }
+/// assert_eq!(station::step(&COURSE_A, &mut runner), Err(Refusal::Landed));
+/// assert_eq!(runner, Runner { leg: 1, offset: 2 });
+/// # Ok::<(), station::Refusal>(())
+/// ```
+#[inline]
+pub fn step(sheet: &[u8], runner: &mut Runner) -> Result<(), Refusal> {
+    let mut record = [runner.leg, runner.offset];
+    done(raw::step(sheet, &mut record))?;
+    let [leg, offset] = record;
+    *runner = Runner { leg, offset };
+    Ok(())
+}
+
+/// The answer's number as a result.
+#[inline]
+fn done(answer: u64) -> Result<(), Refusal> {
+    Refusal::from_number(answer).map_or(Ok(()), Err)
+}

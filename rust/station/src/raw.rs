@@ -1,0 +1,74 @@
+//! The C boundary (`include/station.h`): the six functions as the archive has them, and the same over slices, for the rest of the crate.
+//! All `unsafe` code of the crate is here.
+
+// SAFETY: names and types are those of include/station.h.
+unsafe extern "C" {
+    /// Kind of ends, N and P into `out`.
+    pub fn station_read(sheet: *const u8, sheet_length: usize, out: *mut u64, out_length: usize) -> u64;
+    /// Bend numbers into `list`.
+    pub fn station_lay_out(sheet: *const u8, sheet_length: usize, list: *mut i64, list_length: usize) -> u64;
+    /// North, east and up at a tick into `out`.
+    pub fn station_place_at_tick(
+        sheet: *const u8,
+        sheet_length: usize,
+        list: *const i64,
+        list_length: usize,
+        tick: u64,
+        out: *mut i64,
+        out_length: usize,
+    ) -> u64;
+    /// North, east and up of a runner into `out`.
+    pub fn station_place_of_runner(
+        sheet: *const u8,
+        sheet_length: usize,
+        list: *const i64,
+        list_length: usize,
+        leg: u64,
+        offset: u64,
+        out: *mut i64,
+        out_length: usize,
+    ) -> u64;
+    /// Leg and offset at a tick into `out`.
+    pub fn station_runner_at_tick(sheet: *const u8, sheet_length: usize, tick: u64, out: *mut u64, out_length: usize) -> u64;
+    /// Moves `runner`, a leg and an offset, on by a tick.
+    pub fn station_step(sheet: *const u8, sheet_length: usize, runner: *mut u64, runner_length: usize) -> u64;
+}
+
+// What the library asks of its caller, slices and their borrows give: a pointer that is not null (a slice of no elements has a dangling,
+// aligned one), good for the length beside it, and for what is written a borrow that nothing else shares. Any values may stand in them (D1).
+
+#[inline]
+pub(crate) fn read(sheet: &[u8], out: &mut [u64; 3]) -> u64 {
+    // SAFETY: pointers and lengths of two borrowed slices, `out` borrowed mutably.
+    unsafe { station_read(sheet.as_ptr(), sheet.len(), out.as_mut_ptr(), out.len()) }
+}
+
+#[inline]
+pub(crate) fn lay_out(sheet: &[u8], list: &mut [i64]) -> u64 {
+    // SAFETY: pointers and lengths of two borrowed slices, `list` borrowed mutably.
+    unsafe { station_lay_out(sheet.as_ptr(), sheet.len(), list.as_mut_ptr(), list.len()) }
+}
+
+#[inline]
+pub(crate) fn place_at_tick(sheet: &[u8], list: &[i64], tick: u64, out: &mut [i64; 3]) -> u64 {
+    // SAFETY: pointers and lengths of three borrowed slices, `out` borrowed mutably.
+    unsafe { station_place_at_tick(sheet.as_ptr(), sheet.len(), list.as_ptr(), list.len(), tick, out.as_mut_ptr(), out.len()) }
+}
+
+#[inline]
+pub(crate) fn place_of_runner(sheet: &[u8], list: &[i64], leg: u64, offset: u64, out: &mut [i64; 3]) -> u64 {
+    // SAFETY: pointers and lengths of three borrowed slices, `out` borrowed mutably.
+    unsafe { station_place_of_runner(sheet.as_ptr(), sheet.len(), list.as_ptr(), list.len(), leg, offset, out.as_mut_ptr(), out.len()) }
+}
+
+#[inline]
+pub(crate) fn runner_at_tick(sheet: &[u8], tick: u64, out: &mut [u64; 2]) -> u64 {
+    // SAFETY: pointers and lengths of two borrowed slices, `out` borrowed mutably.
+    unsafe { station_runner_at_tick(sheet.as_ptr(), sheet.len(), tick, out.as_mut_ptr(), out.len()) }
+}
+
+#[inline]
+pub(crate) fn step(sheet: &[u8], runner: &mut [u64; 2]) -> u64 {
+    // SAFETY: pointers and lengths of two borrowed slices, `runner` borrowed mutably.
+    unsafe { station_step(sheet.as_ptr(), sheet.len(), runner.as_mut_ptr(), runner.len()) }
+}

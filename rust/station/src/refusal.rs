@@ -1,0 +1,117 @@
+//! Why a call is refused (group N): numbers and words.
+
+use core::fmt;
+
+/// Why a call was refused. Of the refusals that a call looks for, the one with the least number is answered (A1).
+///
+/// ```
+/// use station::Refusal;
+///
+/// let refusal = station::read(&[0, 0, 0]).unwrap_err();
+/// assert_eq!(refusal, Refusal::Torn);
+/// assert_eq!((refusal.number(), refusal.word()), (1, "torn"));
+/// assert_eq!(refusal.to_string(), "refused 1 torn");
+/// ```
+#[derive(Clone, Copy, PartialEq, Eq, Hash, Debug)]
+#[non_exhaustive]
+pub enum Refusal {
+    /// N1: no room for the header, or its count of bytes is not the slice's.
+    Torn,
+    /// N2: a version other than 1.
+    Edition,
+    /// N3: no such kind of ends.
+    Ends,
+    /// N4: over 512 waypoints, or fewer than 2, closed: fewer than 3.
+    Points,
+    /// N5: too many or too few bytes for that kind and count of waypoints.
+    Size,
+    /// N6: a leg of 0 or over 256 ticks.
+    Leg,
+    /// N7: a waypoint over 1,000,000 mm from home on some axis.
+    Reach,
+    /// N8: a slope over 5,000 mm per tick in size.
+    Slope,
+    /// N9: the list is shorter than three numbers a waypoint.
+    Shelf,
+    /// N10: the tick is over the course's last, on an open course.
+    Past,
+    /// N11: no such leg, or the offset is beyond it.
+    Adrift,
+    /// N12: at an end of the leg, a bend number over 2^37 in size.
+    Bend,
+    /// N13: the runner has come to the end of an open course.
+    Landed,
+    /// A number that this crate does not know, from a library newer than it. The library of this version has no such answer.
+    Unknown(u64),
+}
+
+impl Refusal {
+    /// The refusal with a number, as the C boundary answers it; 0 is none.
+    ///
+    /// ```
+    /// use station::Refusal;
+    ///
+    /// assert_eq!(Refusal::from_number(0), None);
+    /// assert_eq!(Refusal::from_number(6), Some(Refusal::Leg));
+    /// assert_eq!(Refusal::from_number(99), Some(Refusal::Unknown(99)));
+    /// assert!((1..100).all(|number| Refusal::from_number(number).unwrap().number() == number));
+    /// ```
+    pub const fn from_number(number: u64) -> Option<Refusal> {
+        Some(match number {
+            0 => return None,
+            1 => Refusal::Torn,
+            2 => Refusal::Edition,
+            3 => Refusal::Ends,
+            4 => Refusal::Points,
+            5 => Refusal::Size,
+            6 => Refusal::Leg,
+            7 => Refusal::Reach,
+            8 => Refusal::Slope,
+            9 => Refusal::Shelf,
+            10 => Refusal::Past,
+            11 => Refusal::Adrift,
+            12 => Refusal::Bend,
+            13 => Refusal::Landed,
+            _ => Refusal::Unknown(number),
+        })
+    }
+
+    /// The refusal's number.
+    pub const fn number(self) -> u64 {
+        self.named().0
+    }
+
+    /// The refusal's word; that of a number without a name is `unknown`.
+    pub const fn word(self) -> &'static str {
+        self.named().1
+    }
+
+    /// Number and word.
+    const fn named(self) -> (u64, &'static str) {
+        match self {
+            Refusal::Torn => (1, "torn"),
+            Refusal::Edition => (2, "edition"),
+            Refusal::Ends => (3, "ends"),
+            Refusal::Points => (4, "points"),
+            Refusal::Size => (5, "size"),
+            Refusal::Leg => (6, "leg"),
+            Refusal::Reach => (7, "reach"),
+            Refusal::Slope => (8, "slope"),
+            Refusal::Shelf => (9, "shelf"),
+            Refusal::Past => (10, "past"),
+            Refusal::Adrift => (11, "adrift"),
+            Refusal::Bend => (12, "bend"),
+            Refusal::Landed => (13, "landed"),
+            Refusal::Unknown(number) => (number, "unknown"),
+        }
+    }
+}
+
+/// As the stand prints it (T4): `refused 6 leg`.
+impl fmt::Display for Refusal {
+    fn fmt(&self, f: &mut fmt::Formatter<'_>) -> fmt::Result {
+        write!(f, "refused {} {}", self.number(), self.word())
+    }
+}
+
+impl core::error::Error for Refusal {}
