@@ -1,0 +1,123 @@
+/* Flies a course with the station's library, for C and C++: worked course A (T5), or the sheet in a file, `fly FILE`.
+ * Where the library is installed (tools/install PREFIX):
+ *     cc fly.c $(pkg-config --cflags --libs station) -o fly
+ * harness/newcomers compiles and runs it and compares what it prints with fly.expected; rust/station/examples/fly.rs prints the same. */
+#include <inttypes.h>
+#include <stdio.h>
+#include <string.h>
+
+#include <station.h>
+
+/* Course A: 48 bytes, version 1, free ends, 3 waypoints; two legs of 2 ticks; then north, east, up of each waypoint (group S). */
+static const uint8_t course_a[] = {
+    0, 0, 0, 48, 1, 0, 0, 3,             /* header */
+    0, 2, 0, 2,                          /* legs */
+    0, 0, 0, 0, 0, 0, 0, 10, 0, 0, 0, 20, /* 0 10 20 */
+    0, 0, 0, 8, 0, 0, 0, 10, 0, 0, 0, 22, /* 8 10 22 */
+    0, 0, 0, 0, 0, 0, 0, 10, 0, 0, 0, 24, /* 0 10 24 */
+};
+
+/* The sheet, with room for one byte more than the longest, so that a longer file is refused; and its bend numbers. */
+static uint8_t sheet[STATION_LONGEST_SHEET + 1];
+static size_t sheet_length;
+static int64_t list[STATION_LONGEST_LIST];
+
+/* What a call answered, as the stand prints a refusal (T4). */
+static void tell(const char *what, uint64_t answer)
+{
+    if (answer == STATION_DONE)
+        printf("%s: %s\n", what, station_word(answer));
+    else
+        printf("%s: refused %" PRIu64 " %s\n", what, answer, station_word(answer));
+}
+
+static int load(const char *name)
+{
+    FILE *file = fopen(name, "rb");
+    if (file == NULL) {
+        perror(name);
+        return 0;
+    }
+    sheet_length = fread(sheet, 1, sizeof sheet, file);
+    fclose(file);
+    return 1;
+}
+
+/* One line for each tick (T2). */
+static uint64_t fly_by_tick(const struct station_course *course)
+{
+    printf("tick north east up\n");
+    for (uint64_t tick = 0; tick <= course->ticks; tick++) {
+        struct station_place place = {0, 0, 0};
+        uint64_t answer = station_place_at_tick_into(sheet, sheet_length, list, STATION_LONGEST_LIST, tick, &place);
+        if (answer != STATION_DONE)
+            return answer;
+        printf("%" PRIu64 " %" PRId64 " %" PRId64 " %" PRId64 "\n", tick, place.north, place.east, place.up);
+    }
+    return STATION_DONE;
+}
+
+/* The same places by a runner that is moved on from the first waypoint; counts the ticks at which both agree. */
+static uint64_t fly_by_runner(const struct station_course *course, struct station_runner *runner, uint64_t *same)
+{
+    for (uint64_t tick = 0; tick <= course->ticks; tick++) {
+        struct station_place by_tick = {0, 0, 0}, by_runner = {0, 0, 0};
+        uint64_t answer = tick == 0 ? station_runner_at_tick_into(sheet, sheet_length, 0, runner)
+                                    : station_step_runner(sheet, sheet_length, runner);
+        if (answer == STATION_DONE)
+            answer = station_place_of_runner_into(sheet, sheet_length, list, STATION_LONGEST_LIST, *runner, &by_runner);
+        if (answer == STATION_DONE)
+            answer = station_place_at_tick_into(sheet, sheet_length, list, STATION_LONGEST_LIST, tick, &by_tick);
+        if (answer != STATION_DONE)
+            return answer;
+        if (by_tick.north == by_runner.north && by_tick.east == by_runner.east && by_tick.up == by_runner.up)
+            *same += 1;
+    }
+    return STATION_DONE;
+}
+
+/* Calls that an open course refuses: a step past its end, a tick past its end; and a sheet that nobody accepts. */
+static void show_refusals(const struct station_course *course, struct station_runner *runner)
+{
+    struct station_place place;
+    struct station_course other;
+    tell("one step more", station_step_runner(sheet, sheet_length, runner));
+    tell("one tick more", station_place_at_tick_into(sheet, sheet_length, list, STATION_LONGEST_LIST, course->ticks + 1, &place));
+    sheet[8] = 0;
+    sheet[9] = 0;
+    tell("with a first leg of 0 ticks", station_read_into(sheet, sheet_length, &other));
+}
+
+int main(int argc, char **argv)
+{
+    static const char *const kinds[] = {"free", "held", "closed"};
+    struct station_course course = {0, 0, 0};
+    struct station_runner runner = {0, 0};
+    uint64_t same = 0;
+
+    if (argc > 2) {
+        fprintf(stderr, "usage: fly [FILE]\n");
+        return 2;
+    }
+    memcpy(sheet, course_a, sizeof course_a);
+    sheet_length = sizeof course_a;
+    if (argc == 2 && !load(argv[1]))
+        return 1;
+
+    uint64_t answer = station_read_into(sheet, sheet_length, &course);
+    if (answer == STATION_DONE) {
+        printf("%s: %" PRIu64 " waypoints, %" PRIu64 " ticks\n", kinds[course.kind], course.waypoints, course.ticks);
+        answer = station_lay_out(sheet, sheet_length, list, STATION_LONGEST_LIST);
+    }
+    if (answer == STATION_DONE)
+        answer = fly_by_tick(&course);
+    if (answer == STATION_DONE)
+        answer = fly_by_runner(&course, &runner, &same);
+    if (answer != STATION_DONE) {
+        tell("the sheet", answer);
+        return 1;
+    }
+    printf("by runner: %" PRIu64 " of %" PRIu64 " places the same\n", same, course.ticks + 1);
+    show_refusals(&course, &runner);
+    return 0;
+}
