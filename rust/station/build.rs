@@ -1,7 +1,7 @@
 //! Links libstation.a (feature `link`): from the folder STATION_LIBRARY_DIR, or from this repository's target/staticlib.
 
 use std::env;
-use std::path::{Path, PathBuf};
+use std::path::PathBuf;
 
 fn main() {
     println!("cargo::rerun-if-changed=build.rs");
@@ -24,7 +24,7 @@ fn link() -> Result<(), String> {
             (PathBuf::from(folder), "STATION_LIBRARY_DIR has to name the folder that has it, as PREFIX/lib after tools/install PREFIX")
         }
         None => (
-            Path::new(env!("CARGO_MANIFEST_DIR")).join("../../target/staticlib"),
+            PathBuf::from(env::var_os("CARGO_MANIFEST_DIR").unwrap_or_default()).join("../../target/staticlib"),
             "run tools/archive in the station's repository, or set STATION_LIBRARY_DIR to the folder that has it",
         ),
     };
