@@ -1,5 +1,5 @@
-//! Evidence from outside the proofs (see the repository's README): `evidence` compares the station's library with an independent model,
-//! `bench` times it against C. The library is linked by build.rs; no outside crates.
+//! Evidence from outside the proofs (see the repository's README): `evidence` compares the station's library with an independent model
+//! of docs/REQUIREMENTS.md, `bench` times it against C. The library is linked by build.rs; no outside crates.
 
 pub mod boundary;
 pub mod elimination;

@@ -213,8 +213,7 @@ pub fn place_of_runner(sheet: &[u8], list: &[i64], runner: Runner) -> Result<Pla
 pub fn runner_at_tick(sheet: &[u8], tick: u64) -> Result<Runner, Refusal> {
     let mut out = [0; 2];
     done(raw::runner_at_tick(sheet, tick, &mut out))?;
-    let [leg, offset] = out;
-    Ok(Runner { leg, offset })
+    Ok(Runner { leg: out[0], offset: out[1] })
 }
 
 /// Moves a runner on by a tick (M2). Tests 1-8, 11, 13 (A7).
@@ -235,8 +234,7 @@ pub fn runner_at_tick(sheet: &[u8], tick: u64) -> Result<Runner, Refusal> {
 pub fn step(sheet: &[u8], runner: &mut Runner) -> Result<(), Refusal> {
     let mut record = [runner.leg, runner.offset];
     done(raw::step(sheet, &mut record))?;
-    let [leg, offset] = record;
-    *runner = Runner { leg, offset };
+    *runner = Runner { leg: record[0], offset: record[1] };
     Ok(())
 }
 
