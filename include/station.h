@@ -89,7 +89,7 @@ STATION_CHECKED uint64_t station_place_of_runner(const uint8_t *sheet, size_t sh
 /* The runner that stands at a tick. Tests 1-8 and 10 (A6). Results: leg, offset. */
 STATION_CHECKED uint64_t station_runner_at_tick(const uint8_t *sheet, size_t sheet_length, uint64_t tick, uint64_t *out, size_t out_length);
 
-/* Moves a runner (leg, offset) on by a tick where it lies (M2). Tests 1-8, 11, 13 (A7). Fewer than two numbers are no runner: that is 11. */
+/* Moves a runner (leg, offset) on by a tick where it lies (M2). Tests 1-8, 11, 13 (A7). Fewer than two numbers are no runner: 11. */
 STATION_CHECKED uint64_t station_step(const uint8_t *sheet, size_t sheet_length, uint64_t *runner, size_t runner_length);
 
 /* The same calls with structs for what they answer. */

@@ -144,7 +144,8 @@ pub fn read(sheet: &[u8]) -> Result<Course, Refusal> {
     Ok(Course { kind, waypoints: out[1] as usize, ticks: out[2] })
 }
 
-/// Lays out the sheet's bend numbers in a list: north's, then east's, then up's; what the list holds beyond them stays (L5). Tests 1-9 (A3).
+/// Lays out the sheet's bend numbers in a list: north's, then east's, then up's; what the list has beyond them stays (L5).
+/// Tests 1-9 (A3).
 ///
 /// ```
 /// use station::COURSE_A;

@@ -34,8 +34,8 @@ unsafe extern "C" {
     pub fn station_step(sheet: *const u8, sheet_length: usize, runner: *mut u64, runner_length: usize) -> u64;
 }
 
-// What the library asks of its caller, slices and their borrows give: a pointer that is not null (a slice of no elements has a dangling,
-// aligned one), good for the length beside it, and for what is written a borrow that nothing else shares. Any values may stand in them (D1).
+// What the library asks of its caller, slices and their borrows give: a pointer that is not null (that of an empty slice dangles, which is
+// fine), aligned, good for the length beside it, and for what is written a borrow that nothing else shares. Any values will do (D1).
 
 #[inline]
 pub(crate) fn read(sheet: &[u8], out: &mut [u64; 3]) -> u64 {
