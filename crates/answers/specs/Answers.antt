@@ -1,4 +1,4 @@
--- How a call's number is found after reading (01, Named numbers). Every call's definition is a chain of these in the table's order.
+-- How a call's number is found after reading (A1, A8). Every call's definition is a chain of these, the lowest number first.
 use mathlib.Core.Path.{_≡_}
 use mathlib.Core.Bool.{Bool, true, false}
 use mathlib.Core.List.{[]}
@@ -9,7 +9,7 @@ use Rattle.sheet.specs.declared.Reading.the-variants as R
 use Rattle.answers.specs.declared.Outcome.{Outcome}
 use Rattle.answers.specs.declared.Outcome.the-variants.{Done, Refused}
 
--- 01: "it and a step answer only that they are done": no number, no values
+-- A3, A7: neither number nor values
 abbrev pub done : Told
 done = record { number = 0; values = [] }
 
@@ -17,6 +17,10 @@ done = record { number = 0; values = [] }
 abbrev pub toldOutcome : Outcome → Told
 toldOutcome Done = done
 toldOutcome (Refused r) = refused r
+
+-- a call's number without its values: what a step over a lent record answers (A7)
+abbrev pub bare : Told → Told
+bare t = record { number = t .number; values = [] }
 
 -- A8: reading's refusal is the call's
 abbrev pub passOn : Reading → Told → Told

@@ -1,1 +1,2 @@
+-- How a call's answer is made of reading's and of its own tests.
 pub mod Answers

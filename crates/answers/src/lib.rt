@@ -1,9 +1,9 @@
-// What every call after reading shares: its outcome, and the reader's refusal passed on (01, Named numbers). For layout, runner and place.
+// What every call after reading shares: its outcome, and the reader's refusal passed on (A8). For layout, runner, place and stand.
 use sheet::Reading;
 use sheet::Refusal;
 ghost use Rattle.answers.specs.Answers.{Carries};
 
-// 01: laying out and a step "answer only that they are done"; or the refusal.
+// A3, A7: done, or the refusal.
 pub enum Outcome {
     Done,
     Refused(Refusal),

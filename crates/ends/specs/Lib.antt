@@ -1,1 +1,2 @@
+-- What the kind of ends decides.
 pub mod Ends

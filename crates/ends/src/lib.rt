@@ -1,16 +1,16 @@
-// The kinds of a course's ends, and what is chosen by the kind alone (01, The sheet and Named numbers). For sheet, spline and station.
+// The kinds of a course's ends (S4), and what is chosen by the kind alone (F2). For every crate that knows a course.
 ghost use mathlib.Core.Path.{_≡_};
 ghost use Prim.Native.Nat.{_≤_};
 ghost use Rattle.ends.specs.Ends.{legCount, leastPoints};
 
-// 01: "End kind 0 is free, 1 is held, 2 is closed."
+// S4: in the order of their bytes.
 pub enum EndKind {
     Free,
     Held,
     Closed,
 }
 
-// L: 01, "L is N - 1 for kinds 0 and 1, and N for kind 2".
+// S6: L, of N waypoints.
 pub fn leg_count(kind: EndKind, points: usize) -> usize
     requires { ⌜ 1 ≤ points ⌝ }
     ensures { λ r. ⌜ r ≡ legCount kind points ⌝ }
@@ -22,7 +22,7 @@ pub fn leg_count(kind: EndKind, points: usize) -> usize
     }
 }
 
-// The least N: 01, number 4.
+// N4: the least N.
 pub fn least_points(kind: EndKind) -> usize
     ensures { λ r. ⌜ r ≡ leastPoints kind ⌝ }
 {

@@ -22,7 +22,7 @@ fifth-power : (a b c d : ℤ)
 fifth-power = solve 4 (λ a b c d. let s = a ⊕ b ⊕ c ⊕ d in let p = a ⊕ b in let q = c ⊕ d in
     s ⊗ s ⊗ s ⊗ s ⊗ s ≋ p ⊗ p ⊗ p ⊗ p ⊗ p ⊕ # 5 ⊗ p ⊗ p ⊗ p ⊗ p ⊗ q ⊕ # 10 ⊗ p ⊗ p ⊗ p ⊗ q ⊗ q ⊕ # 10 ⊗ p ⊗ p ⊗ q ⊗ q ⊗ q ⊕ # 5 ⊗ p ⊗ q ⊗ q ⊗ q ⊗ q ⊕ q ⊗ q ⊗ q ⊗ q ⊗ q) tt
 
--- DESIGN 3.3's one step: a new value whose neighbours are off by at most B and whose rounding is off by half is off by at most (B + D) / 2
+-- one step of a pass (L2): a new value whose neighbours are off by at most B and whose rounding is off by half is off by at most (B + D) / 2
 one-step : (b m a D B p q e s : ℕ) → 1 ≤ m → 2 * (b + a) ≤ m → m * e ≤ b * p + a * q + D * s → 2 * s ≤ m → p ≤ B → q ≤ B → 2 * e ≤ B + D
 one-step b m a D B p q e s some dominant row rounding hp hq = le-of-mul-le-mul-left {k = m}
     (omega (arith, mul-le-mul-left b hp, mul-le-mul-left a hq, mul-le-mul-left D rounding, mul-le-mul-right B dominant)) some

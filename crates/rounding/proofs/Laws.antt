@@ -1,4 +1,4 @@
--- The laws of rounding that callers use (DESIGN 3.2). All follow from 2dz ≤ 2n + d < 2dz + 2d, which `rounded` fulfils and no second number does.
+-- The laws of rounding that callers use. All follow from 2dz ≤ 2n + d < 2dz + 2d, which `rounded` fulfils and no second number does.
 use mathlib.Core.Path.{_≡_, refl, sym, ap}
 use mathlib.Core.List.{[], _∷_}
 use Prim.Native.Nat.{ℕ, suc, _+_, _-_, _*_, _/_, _%_, _≤_, _<_}
@@ -99,7 +99,7 @@ rounded-half q d h =
     q (pos d) (pos-le 1 d h)))
 
 -- ---- by computing
--- 01: "the place at tick 1 is 5.5, given as 6", and "-5.5, given as -5"
+-- W1 and W2: 5.5 and -5.5 give 6 and -5
 pub half-above : rounded (pos 11) 2 ≡ pos 6
 unfolding rounded floor
 half-above = refl
@@ -108,7 +108,7 @@ pub half-below : rounded (negsuc 10) 2 ≡ negsuc 4
 unfolding rounded floor
 half-below = refl
 
--- 01: "Z 0, -39,321, ..", from the fifth pass on -157,286 / 4, which is -39,321.5
+-- W3's second bend number: from the fifth pass on -157,286 / 4, which is -39,321.5
 pub half-bend : rounded (negsuc 157285) 4 ≡ negsuc 39320
 unfolding rounded floor
 half-bend = refl

@@ -1,5 +1,4 @@
--- Rounding (01, Laying out bend numbers: "rounded to the nearest whole number, a half going up"; Places: "round by the same rule").
--- Every promise and law about rounding speaks of `rounded`.
+-- Rounding (L4), of bend numbers and of places alike (L2, P1). Every promise and law about rounding speaks of `rounded`.
 use Prim.Native.Nat.{ℕ, _*_, _/_}
 use lib.IntN.{ℤ, pos, negsuc, _+ℤ_, _*ℤ_}
 
@@ -8,6 +7,6 @@ unfoldable pub floor : ℤ → ℕ → ℤ
 floor (pos n) d = pos (n / d)
 floor (negsuc k) d = negsuc (k / d)
 
--- n / d to the nearest whole number, a half going up: the floor of n / d + 1/2, which is that of (2n + d) / 2d
+-- L4: n / d to the nearest, a half upwards, which is the floor of n / d + 1/2, or of (2n + d) / 2d
 unfoldable pub rounded : ℤ → ℕ → ℤ
 rounded n d = floor (pos 2 *ℤ n +ℤ pos d) (2 * d)

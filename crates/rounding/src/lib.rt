@@ -1,5 +1,5 @@
-// Rounding division (01, "rounded to the nearest whole number, a half going up"), in the form that 01 names: quotient and
-// remainder of signed division, the remainder deciding. For every numerator and every divisor above 0; no sign is branched on.
+// Rounding division (L4) in the form F5: quotient and remainder of signed division, the remainder deciding, for every numerator and
+// every divisor above 0; no sign is branched on. For layout and place.
 ghost use mathlib.Core.Bool.{cond};
 ghost use mathlib.Core.Path.{_≡_};
 ghost use lib.IntN.{pos, negℤ, natAbs, _*ℤ_};
@@ -22,7 +22,7 @@ fn goes_down(r: i64, d: i64) -> i64
     if r < -(d / 2) { 1 } else { 0 }
 }
 
-// n / d to the nearest whole number, a half going up
+// L4: n / d, rounded
 pub fn rounded(n: i64, d: i64) -> i64
     requires { ⌜ pos 1 ≤ℤ d ⌝ }
     ensures { λ z. ⌜ z ≡ rounded n (natAbs d) ⌝ }

@@ -1,4 +1,4 @@
-// Runs `rounded` and writes a line `n d result` for each pair: the halves of 01 (5.5, -5.5, -39,321.5), multiples, numbers
+// Runs `rounded` and writes a line `n d result` for each pair: the halves of W1 to W3 (5.5, -5.5, -39,321.5), multiples, numbers
 // just below, at and above a half on both sides of zero, and the ends of i64. The pairs lie in an array that a loop reads,
 // so that the division is done when the program runs and not when it is compiled.
 use libc::STDOUT_FILENO;

@@ -5,7 +5,7 @@ use native.Mathlib.Omega.{arith}
 use Rattle.ends.specs.Ends.{legCount, leastPoints}
 use Rattle.ends.specs.declared.EndKind.{EndKind}
 use Rattle.ends.specs.declared.EndKind.the-variants.{Free, Held, Closed}
-use Rattle.sheet.specs.Fields.{kindOf}
+use Rattle.sheet.specs.Fields.{kindOf, sheetLength}
 
 -- no more legs than waypoints
 pub legs-at-most : (k : EndKind) (n : ℕ) → legCount k n ≤ n
@@ -18,6 +18,12 @@ pub legs-at-least : (k : EndKind) (n : ℕ) → n ≤ legCount k n + 1
 legs-at-least Free n = omega arith
 legs-at-least Held n = omega arith
 legs-at-least Closed n = omega arith
+
+-- no kind has more bytes than held, by legs and slopes together
+pub held-longest : (k : EndKind) (n : ℕ) → 1 ≤ n → sheetLength k n ≤ sheetLength Held n
+held-longest Free n h = omega arith
+held-longest Held n h = omega arith
+held-longest Closed n h = omega arith
 
 pub least-two : (k : EndKind) → 2 ≤ leastPoints k
 least-two Free = omega arith

@@ -16,14 +16,14 @@ use Rattle.integers.proofs.Order.{le-or-lt}
 use Rattle.sheet.specs.Answers.{numberOf, told}
 use Rattle.sheet.specs.Bytes.{anyBelow}
 use Rattle.sheet.specs.Fields.{kind, points, legs, leg, ticks, waypointsFrom, waypoint, slopesFrom, slope, slopeBytes, sheetLength}
-use Rattle.sheet.specs.Reading.{Accepted, legOutside, reachOutside, slopeOutside, slopesOutside, applies, lowest, mostPoints, readBy, readSheet}
+use Rattle.sheet.specs.Reading.{Accepted, legOutside, reachOutside, slopeOutside, slopesOutside, applies, lowest, mostPoints, longestSheet, readBy, readSheet}
 use Rattle.sheet.specs.Theorems.{ReadOrRefused, ReadAccepted, Bounds, AcceptedBounds}
 use Rattle.sheet.specs.declared.Refusal.{Refusal}
 use Rattle.sheet.specs.declared.Refusal.the-variants.{Torn, Edition, Ends, Points, Size, Leg, Reach, Slope}
 use Rattle.sheet.specs.declared.Reading.{Reading}
 use Rattle.sheet.specs.declared.Reading.the-variants.{Course, Refused}
 use Rattle.sheet.proofs.Below.{or-left, or-right, any-none, sum-at-most, sum-at-least}
-use Rattle.sheet.proofs.ByKind.{least-two, legs-at-most, legs-at-least}
+use Rattle.sheet.proofs.ByKind.{least-two, legs-at-most, legs-at-least, held-longest}
 use Rattle.sheet.proofs.Lowest.{past, passed, stopped}
 use Rattle.sheet.proofs.Numbers.{within-size}
 use Rattle.sheet.proofs.Told.{number-injective, number-positive}
@@ -131,6 +131,9 @@ module _ (s : List ℕ) (a : Accepted s) where
       let none = any-none (λ y. anyBelow (λ x. slopeOutside (slope s x y)) 3) 2 held side k in
       within-size 5_000 (slope s axis side) (any-none (λ x. slopeOutside (slope s x side)) 3 none axis h)
 
+  longest : length s ≤ longestSheet
+  longest = omega (arith, enough, few, least-two (kind s), size, held-longest (kind s) (points s) (omega (arith, enough, least-two (kind s))))
+
   some-ticks : 1 ≤ ticks s
   some-ticks = omega (arith, enough, least-two (kind s), legs-at-least (kind s) (points s), sum-at-least (leg s) 1 (legs s) leg-low)
 
@@ -146,6 +149,7 @@ accepted-bounds s a = record {
   leg-high = leg-high s a;
   reach = reach s a;
   slope = slope-within s a;
+  longest = longest s a;
   some-ticks = some-ticks s a;
   few-ticks = few-ticks s a;
 }

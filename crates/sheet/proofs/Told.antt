@@ -1,4 +1,4 @@
--- The paper's numbers and values tell an answer whole, so that a promise through `told` (specs/Answers) is one about the answer itself.
+-- Number and values tell an answer whole, so that a promise through `told` (specs/Answers) is one about the answer itself.
 use mathlib.Core.Path.{_≡_, refl, sym, ap, _∙_}
 use mathlib.Core.List.{List, [], _∷_}
 use Prim.Native.Nat.{ℕ, _-_, _≤_}
@@ -16,7 +16,7 @@ use Rattle.sheet.specs.declared.Refusal.the-variants.{Torn, Edition, End
 use Rattle.sheet.specs.declared.Reading.{Reading}
 use Rattle.sheet.specs.declared.Reading.the-variants.{Course, Refused}
 
--- ---- back from a number
+-- ---- back from a number; 0, which no refusal has, goes to the first
 refusalOf : ℕ → Refusal
 refusalOf n =
     getD (Torn ∷ Edition ∷ Ends ∷ Points ∷ Size ∷ Leg ∷ Reach ∷ Slope ∷ Shelf ∷ Past ∷ Adrift ∷ Bend ∷ Landed ∷ []) (n - 1) Torn

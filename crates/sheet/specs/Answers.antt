@@ -1,5 +1,4 @@
--- This paper's numbers and values for each case of an answer (01, Named numbers; Matching forms: "Any answer that is an enum has a definition that gives this
--- paper's number and values for each of the enum's cases"). Every promise about an answer goes through these.
+-- Number and values of each case of an answer (F8), which every promise about an answer goes through.
 use mathlib.Core.List.{List, [], _∷_}
 use Prim.Native.Nat.{ℕ}
 use lib.IntN.{ℤ, pos}
@@ -9,7 +8,7 @@ use Rattle.sheet.specs.declared.Refusal.the-variants.{Torn, Edition, End
 use Rattle.sheet.specs.declared.Reading.{Reading}
 use Rattle.sheet.specs.declared.Reading.the-variants.{Course, Refused}
 
--- 01's table, number by number
+-- N1 to N13
 abbrev pub numberOf : Refusal → ℕ
 numberOf Torn = 1
 numberOf Edition = 2
@@ -25,16 +24,16 @@ numberOf Adrift = 11
 numberOf Bend = 12
 numberOf Landed = 13
 
--- what a call tells: its number, 0 where none applies, and its values
+-- what a call tells: its number, or 0 where it is not refused, and its values
 pub record Told : Type 0 where
   pub number : ℕ
   pub values : List ℤ
 
--- 01: "A refusal carries its number alone"
+-- A9: a number and no values
 abbrev pub refused : Refusal → Told
 refused r = record { number = numberOf r; values = [] }
 
--- 01: "Reading .. answers the end kind, N and the sum of the legs."
+-- A2: kind, N and P
 abbrev pub told : Reading → Told
 told (Course k n p) = record { number = 0; values = pos (kindNumber k) ∷ pos n ∷ pos p ∷ [] }
 told (Refused r) = refused r

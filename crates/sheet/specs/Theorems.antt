@@ -11,25 +11,25 @@ use Rattle.ends.specs.declared.EndKind.{EndKind}
 use Rattle.ends.specs.declared.EndKind.the-variants.{Held}
 use Rattle.sheet.specs.Answers.{numberOf}
 use Rattle.sheet.specs.Fields.{kind, points, legs, leg, ticks, waypoint, slope, sheetLength}
-use Rattle.sheet.specs.Reading.{Accepted, applies, mostPoints, readSheet}
+use Rattle.sheet.specs.Reading.{Accepted, applies, mostPoints, longestSheet, readSheet}
 use Rattle.sheet.specs.declared.Refusal.{Refusal}
 use Rattle.sheet.specs.declared.Reading.the-variants.{Course, Refused}
 
--- 01: "The lowest number that applies is given": the answer's refusal applies to the sheet, and no lower one does
+-- A1: the answer is the refusal r, which applies to the sheet, and no lower one does
 pub record Lowest (s : List ℕ) (r : Refusal) : Type 0 where
   pub answer : readSheet s ≡ Refused r
   pub applying : applies mostPoints s r ≡ true
   pub lower : (q : Refusal) → numberOf q < numberOf r → applies mostPoints s q ≡ false
 
--- 01: ".. and none where none applies": a sheet is accepted and read, or has exactly one refusal
+-- A1, A10: a sheet is accepted and read, or has exactly one refusal
 abbrev pub ReadOrRefused : Type 0
 ReadOrRefused = (s : List ℕ) → (Accepted s × (readSheet s ≡ Course (kind s) (points s) (ticks s))) ⊎ ((r : Refusal) × Lowest s r)
 
--- a sheet that is read is accepted, and what reading answers is its fields
+-- A2: a sheet that is read is accepted, and what reading answers is its fields
 abbrev pub ReadAccepted : Type 0
 ReadAccepted = (s : List ℕ) (k : EndKind) (n p : ℕ) → readSheet s ≡ Course k n p → Accepted s × (k ≡ kind s) × (n ≡ points s) × (p ≡ ticks s)
 
--- the bounds of an accepted sheet
+-- the bounds of an accepted sheet (N4 to N8), and those of P and of the length that follow
 pub record Bounds (s : List ℕ) : Type 0 where
   pub enough : leastPoints (kind s) ≤ points s
   pub few : points s ≤ mostPoints
@@ -38,8 +38,13 @@ pub record Bounds (s : List ℕ) : Type 0 where
   pub leg-high : (i : ℕ) → i < legs s → leg s i ≤ 256
   pub reach : (axis i : ℕ) → axis < 3 → i < points s → natAbs (waypoint s axis i) ≤ 1_000_000
   pub slope : (axis side : ℕ) → axis < 3 → side < 2 → kind s ≡ Held → natAbs (slope s axis side) ≤ 5_000
+  pub longest : length s ≤ longestSheet
   pub some-ticks : 1 ≤ ticks s
   pub few-ticks : ticks s ≤ 131_072
 
 abbrev pub AcceptedBounds : Type 0
 AcceptedBounds = (s : List ℕ) → Accepted s → Bounds s
+
+-- S9: an accepted sheet of 7,198 bytes, which no accepted sheet exceeds
+abbrev pub Longest : Type 0
+Longest = (s : List ℕ) × Accepted s × (length s ≡ 7_198) × (longestSheet ≡ 7_198)

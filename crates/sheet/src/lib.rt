@@ -1,4 +1,4 @@
-// The course sheet and its reader (01, The sheet and Named numbers): any slice of bytes is read, or refused with the lowest number that applies.
+// The course sheet and its reader (groups S, N, A): whatever bytes are handed over, they are read or refused. For every later crate.
 mod bytes;
 mod fields;
 mod limits;
@@ -10,11 +10,13 @@ pub use bytes::read16;
 pub use fields::end_of;
 pub use fields::leg_length;
 pub use fields::waypoint_on;
-pub use reader::kind_of;
 pub use reader::read;
-pub use reader::sheet_length;
 pub use refusals::number_of;
 
+// S9: the bytes of the longest sheet that is accepted.
+pub const LONGEST_SHEET: usize = 7198;
+
+// The refusals, in the order of their numbers (N1 to N13).
 pub enum Refusal {
     Torn,
     Edition,
@@ -31,7 +33,7 @@ pub enum Refusal {
     Landed,
 }
 
-// What reading answers: the end kind, N and the sum of the legs; or the refusal.
+// A2: reading's answer, the kind, N and P; or its refusal.
 pub enum Reading {
     Course {
         kind: ends::EndKind,

@@ -1,4 +1,4 @@
-// The reader (01, Named numbers: "Reading tests 1 to 8 and answers the end kind, N and the sum of the legs"), in one walk over the sheet.
+// The reader (A2), in one walk over the sheet.
 ghost use mathlib.Core.Path.{_≡_};
 ghost use mathlib.Core.List.{[], _∷_};
 ghost use Prim.Native.Nat.{_+_, _*_, _≤_, _<_};
@@ -6,8 +6,9 @@ ghost use lib.ListN.{length};
 ghost use Rattle.sheet.specs.Answers.{told};
 ghost use Rattle.sheet.specs.Bytes.{be16, be32, signed32, anyBelow, sumBelow};
 ghost use Rattle.sheet.specs.Fields.{kindField, kindOf, leg, waypointsFrom, waypoint, slopesFrom, slopeBytes, sheetLength};
-ghost use Rattle.sheet.specs.Reading.{legOutside, reachOutside, slopeOutside, slopesOutside, mostPoints, lowest, readSheet};
+ghost use Rattle.sheet.specs.Reading.{legOutside, reachOutside, slopeOutside, slopesOutside, mostPoints, longestSheet, lowest, readSheet};
 ghost use Rattle.sheet.specs.declared.Refusal.the-variants.{Edition, Ends, Points, Size, Leg, Reach, Slope};
+use crate::LONGEST_SHEET;
 use crate::Reading;
 use crate::Refusal;
 use crate::bytes::read16;
@@ -17,11 +18,11 @@ use crate::limits::beyond_slope;
 use crate::limits::leg_outside;
 use ends::EndKind;
 
-// The station's largest N (01, number 4).
+// N4: the largest N.
 const MOST_POINTS: usize = 512;
 
-// 01: "End kind 0 is free, 1 is held, 2 is closed."
-pub fn kind_of(byte: u8) -> EndKind
+// S4: the kind of a byte that is 0, 1 or 2.
+fn kind_of(byte: u8) -> EndKind
     ensures { λ r. ⌜ r ≡ kindOf byte ⌝ }
 {
     match byte {
@@ -31,8 +32,8 @@ pub fn kind_of(byte: u8) -> EndKind
     }
 }
 
-// 01: "The length is 8 + 2L + 12N, and 24 more for kind 1."
-pub fn sheet_length(kind: EndKind, points: usize) -> usize
+// S9: the bytes of a sheet.
+fn sheet_length(kind: EndKind, points: usize) -> usize
     requires { ⌜ (1 ≤ points) × (points < 65536) ⌝ }
     ensures { λ r. ⌜ r ≡ sheetLength kind points ⌝ }
 {
@@ -44,13 +45,20 @@ pub fn sheet_length(kind: EndKind, points: usize) -> usize
     }
 }
 
+// Holds the constant against the definition; nothing calls it.
+fn longest_sheet() -> usize
+    ensures { λ r. ⌜ r ≡ longestSheet ⌝ }
+{
+    LONGEST_SHEET
+}
+
 // The sum of the legs, and whether one of them is outside its limits.
 struct Legs {
     ticks: u64,
     outside: bool,
 }
 
-// 6, and P: all legs are summed, also past one that is outside.
+// N6, and P: all legs are summed, also past one that is outside.
 fn add_legs(s: &[u8], count: usize) -> Legs
     requires { ⌜ (8 + 2 * count ≤ length (now s)) × (count < 65536) ⌝ }
     ensures { λ r. ⌜ (r .ticks ≡ sumBelow (leg (now (s .entry))) count) × (r .outside ≡ anyBelow (λ i. legOutside (leg (now (s .entry)) i)) count) ⌝ }
@@ -67,14 +75,14 @@ fn add_legs(s: &[u8], count: usize) -> Legs
     Legs { ticks, outside }
 }
 
-// Three numbers of 32 bits, as they stand in the sheet, for a waypoint or a side's slopes.
+// The bits of a waypoint's three numbers (S7), or of one end's three slopes (S8).
 struct Triple {
     north: u64,
     east: u64,
     up: u64,
 }
 
-// 01: "north, east, up, each signed, 32 bits": their bits.
+// The bits of three numbers that stand one behind the other.
 fn read_triple(s: &[u8], at: usize) -> Triple
     requires { ⌜ at + 12 ≤ length (now s) ⌝ }
     ensures bits { λ r. ⌜ (r .north ≡ be32 (now (s .entry)) at) × (r .east ≡ be32 (now (s .entry)) (at + 4)) × (r .up ≡ be32 (now (s .entry)) (at + 8)) ⌝ }
@@ -87,7 +95,7 @@ fn read_triple(s: &[u8], at: usize) -> Triple
     }
 }
 
-// 7, of the waypoint whose numbers start at `at`. (By returns: with `|` the reader takes a sixth longer.)
+// N7, of the waypoint whose numbers start at `at`. (By returns: with `|` the reader takes a sixth longer.)
 fn waypoint_beyond(s: &[u8], at: usize) -> bool
     requires { ⌜ at + 12 ≤ length (now s) ⌝ }
     ensures { λ r. ⌜ r ≡ anyBelow (λ axis. reachOutside axis (signed32 (be32 (now (s .entry)) (at + 4 * axis)))) 3 ⌝ }
@@ -102,7 +110,7 @@ fn waypoint_beyond(s: &[u8], at: usize) -> bool
     beyond_reach(2, x.up)
 }
 
-// 7, of the first `count` waypoints.
+// N7, of the first `count` waypoints.
 fn waypoints_beyond(s: &[u8], from: usize, count: usize) -> bool
     requires { ⌜ (from ≡ waypointsFrom (now s)) × (from + 12 * count ≤ length (now s)) ⌝ }
     ensures { λ r. ⌜ r ≡ anyBelow (λ i. anyBelow (λ axis. reachOutside axis (waypoint (now (s .entry)) axis i)) 3) count ⌝ }
@@ -117,7 +125,7 @@ fn waypoints_beyond(s: &[u8], from: usize, count: usize) -> bool
     false
 }
 
-// 8, of the side whose slopes start at `at`.
+// N8, of the end whose slopes start at `at`.
 fn side_beyond(s: &[u8], at: usize) -> bool
     requires { ⌜ at + 12 ≤ length (now s) ⌝ }
     ensures { λ r. ⌜ r ≡ anyBelow (λ axis. slopeOutside (signed32 (be32 (now (s .entry)) (at + 4 * axis)))) 3 ⌝ }
@@ -126,7 +134,7 @@ fn side_beyond(s: &[u8], at: usize) -> bool
     beyond_slope(x.north) | beyond_slope(x.east) | beyond_slope(x.up)
 }
 
-// 8: only kind 1 has slopes.
+// N8: slopes are a held course's alone (S8).
 fn slopes_beyond(s: &[u8], kind: EndKind, from: usize) -> bool
     requires { ⌜ (from ≡ slopesFrom (now s)) × (from + slopeBytes kind ≤ length (now s)) ⌝ }
     ensures { λ r. ⌜ r ≡ slopesOutside kind (now (s .entry)) ⌝ }
@@ -138,7 +146,7 @@ fn slopes_beyond(s: &[u8], kind: EndKind, from: usize) -> bool
     }
 }
 
-// 6 to 8, of a sheet whose head is in order: "The lowest number that applies is given, and none where none applies."
+// N6 to N8, of a sheet to which no lower number applies: the first that does, or the course (A1).
 fn read_body(s: &[u8], kind: EndKind, n: usize) -> Reading
     requires { ⌜ (kind ≡ kindOf (kindField (now s))) × (n ≡ be16 (now s) 6) × (2 ≤ n) × (n ≤ mostPoints) × (length (now s) ≡ sheetLength kind n) ⌝ }
     ensures { λ r. ⌜ r ≡ lowest mostPoints (now (s .entry)) (Leg ∷ Reach ∷ Slope ∷ []) ⌝ }
@@ -162,7 +170,7 @@ fn read_body(s: &[u8], kind: EndKind, n: usize) -> Reading
     }
 }
 
-// 2 to 5, of a sheet that is not torn, then the body. (Apart from 1: behind seven tests in one function the compiler takes the body for unlikely, and the
+// N2 to N5, of a sheet that is not torn, then the body. (Apart from N1: behind seven tests in one function the compiler takes the body for unlikely, and the
 // answer goes through memory twice, which is half of a small sheet's time.)
 fn read_fields(s: &[u8]) -> Reading
     requires { ⌜ 8 ≤ length (now s) ⌝ }
@@ -189,7 +197,7 @@ fn read_fields(s: &[u8]) -> Reading
     read_body(s, kind, n)
 }
 
-// 1, then the fields: any slice of bytes is read or refused.
+// N1, then the fields: whatever the bytes, they are read or refused (D1).
 pub fn read(s: &[u8]) -> Reading
     ensures { λ r. ⌜ told r ≡ told (readSheet (now (s .entry))) ⌝ }
 {

@@ -1,9 +1,9 @@
-// The paper's number of a refusal, for programs that tell it (01, Named numbers).
+// A refusal's number (group N), for the C boundary and for programs that print it.
 ghost use mathlib.Core.Path.{_≡_};
 ghost use Rattle.sheet.specs.Answers.{numberOf};
 use crate::Refusal;
 
-// 01's table, number by number.
+// N1 to N13.
 pub fn number_of(refusal: Refusal) -> u64
     ensures { λ r. ⌜ r ≡ numberOf refusal ⌝ }
 {

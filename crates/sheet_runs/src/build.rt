@@ -1,4 +1,4 @@
-// Sheets, built byte by byte after 01's section "The sheet".
+// Sheets, built byte by byte after S1 to S9. For the cases.
 ghost use Prim.Native.Nat.{_≤_};
 
 // One byte; nothing past the end.
@@ -8,7 +8,7 @@ fn put8(bytes: &mut [u8; 8192], at: usize, x: u64) {
     }
 }
 
-// Two bytes, big-endian.
+// Two bytes, the highest first.
 fn put16(bytes: &mut [u8; 8192], at: usize, x: u64) {
     if at < 8192 {
         put8(bytes, at, x / 256);
@@ -16,7 +16,7 @@ fn put16(bytes: &mut [u8; 8192], at: usize, x: u64) {
     }
 }
 
-// Four bytes, big-endian.
+// Four bytes, the highest first.
 fn put32(bytes: &mut [u8; 8192], at: usize, x: u64) {
     if at < 8192 {
         put16(bytes, at, x / 65536);
@@ -42,7 +42,7 @@ pub fn minus(x: u64) -> u64
     4294967296 - x
 }
 
-// L of the kind with this byte.
+// S6: L of the kind with this byte.
 pub fn leg_count(kind: u8, n: usize) -> usize
     requires { ⌜ n ≤ 600 ⌝ }
     ensures { λ r. ⌜ r ≤ 600 ⌝ }
@@ -74,14 +74,14 @@ fn fill(bytes: &mut [u8; 8192], from: usize, width: usize, count: usize, low: u6
     }
 }
 
-// Kind 1 has slopes.
+// S8: a held sheet's slopes.
 fn slope_bytes(kind: u8) -> usize
     ensures { λ r. ⌜ r ≤ 24 ⌝ }
 {
     if kind == 1 { 24 } else { 0 }
 }
 
-// Length, version, kind and N.
+// S2 to S5: length, version, kind and N.
 fn head(bytes: &mut [u8; 8192], kind: u8, n: usize, length: usize) {
     put(bytes, 0, 4, length as u64);
     put(bytes, 4, 1, 1);

@@ -1,5 +1,5 @@
 // Runs the reader over sheets that are built here, and prints a line for each: its name, the number (0 where it is read) and the values.
-// The boundary rows of 01's "Courses to try", and each refusal alone and with each other one (01, Named numbers). `stdout` was worked out separately.
+// The sheets at the limits (W10), and each refusal alone and with each other one (A1). `stdout` was worked out separately.
 mod build;
 mod cases;
 mod tell;
@@ -26,7 +26,7 @@ fn main() {
     faults(b"closed", 2);
 }
 
-// Number 1: too few bytes, or a length that is not the slice's.
+// N1: too few bytes, or another count than the sheet states.
 fn short() {
     let mut bytes = [0u8; 8192];
     tell(b"empty", &bytes, 0);
@@ -40,7 +40,7 @@ fn short() {
     tell(b"length with its top byte set", &bytes, length);
 }
 
-// Numbers 2 and 3.
+// N2 and N3.
 fn heads() {
     changed(b"version 0", 1, 3, 4, 1, 0);
     changed(b"version 2", 1, 3, 4, 1, 2);
@@ -49,7 +49,7 @@ fn heads() {
     changed(b"kind 255", 1, 3, 5, 1, 255);
 }
 
-// Number 4, free: 2 to 512.
+// N4, free: 2 to 512.
 fn free_sizes() {
     whole(b"free, N = 0", 0, 0);
     whole(b"free, N = 1", 0, 1);
@@ -60,7 +60,7 @@ fn free_sizes() {
     whole(b"free, N = 513", 0, 513);
 }
 
-// Number 4, held: 2 to 512, and 513 is not torn though it has 7,212 bytes; closed: 3 to 512. Then N with its top byte set.
+// N4, held: 2 to 512, and 513 is not torn though it has 7,212 bytes; closed: 3 to 512. Then N with its top byte set.
 fn other_sizes() {
     whole(b"held, N = 1", 1, 1);
     whole(b"held, N = 2", 1, 2);
@@ -74,7 +74,7 @@ fn other_sizes() {
     changed(b"N of 65,283", 1, 3, 6, 1, 255);
 }
 
-// Number 6: a leg is 1 to 256, the closing leg too. The first stands at byte 8.
+// N6: a leg is 1 to 256, the closing leg too. The first stands at byte 8.
 fn legs() {
     changed(b"leg 1", 0, 3, 8, 2, 1);
     changed(b"leg 256", 0, 3, 8, 2, 256);
@@ -88,7 +88,7 @@ fn legs() {
     changed(b"closing leg 0", 2, 3, 12, 2, 0);
 }
 
-// Number 7: each of a waypoint's numbers is -1,000,000 to 1,000,000. The first stands at byte 12, or 14 in a closed sheet.
+// N7: each of a waypoint's numbers is -1,000,000 to 1,000,000. The first stands at byte 12, or 14 in a closed sheet.
 fn waypoints() {
     changed(b"north 1,000,000", 0, 3, 12, 4, 1000000);
     changed(b"north 1,000,001", 0, 3, 12, 4, 1000001);
@@ -105,7 +105,7 @@ fn waypoints() {
     changed(b"last up -1,000,001", 2, 3, 46, 4, minus(1000001));
 }
 
-// Number 8: each slope is -5,000 to 5,000. The first stands at byte 48.
+// N8: each slope is -5,000 to 5,000. The first stands at byte 48.
 fn slopes() {
     changed(b"start north 5,000", 1, 3, 48, 4, 5000);
     changed(b"start north 5,001", 1, 3, 48, 4, 5001);

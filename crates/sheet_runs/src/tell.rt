@@ -1,4 +1,4 @@
-// Lines of output.
+// Lines of output, for the cases.
 use ends::EndKind;
 use libc::STDOUT_FILENO;
 use sheet::Reading;
@@ -16,7 +16,7 @@ pub fn print_number(x: u64) {
     io::print_decimal(STDOUT_FILENO, x);
 }
 
-// 01: "Reading .. answers the end kind, N and the sum of the legs"; "A refusal carries its number alone".
+// A2 and A9: number 0 with kind, N and P; or a refusal's number alone.
 fn print_answer(answer: Reading) {
     match answer {
         Reading::Refused(refusal) => print_number(sheet::number_of(refusal)),
