@@ -36,6 +36,12 @@ any-none p zero e i h = absurd (omega arith)
 any-none p (suc n) e i h =
     last-or-below (λ k. p k ≡ false) n i h (any-none p n (or-left (anyBelow p n) (p n) e) i) (or-right (anyBelow p n) (p n) e)
 
+-- and back
+pub none-any : (p : ℕ → Bool) (n : ℕ) → ((i : ℕ) → i < n → p i ≡ false) → anyBelow p n ≡ false
+unfolding anyBelow
+none-any p zero h = refl
+none-any p (suc n) h = rw (none-any p n (λ i k. h i (omega arith)), h n (omega arith))
+
 -- one of which it holds is enough
 pub any-one : (p : ℕ → Bool) (n i : ℕ) → i < n → p i ≡ true → anyBelow p n ≡ true
 unfolding anyBelow

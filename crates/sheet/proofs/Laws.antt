@@ -132,7 +132,7 @@ module _ (s : List ℕ) (a : Accepted s) where
       within-size 5_000 (slope s axis side) (any-none (λ x. slopeOutside (slope s x side)) 3 none axis h)
 
   longest : length s ≤ longestSheet
-  longest = omega (arith, enough, few, least-two (kind s), size, held-longest (kind s) (points s) (omega (arith, enough, least-two (kind s))))
+  longest = omega (arith, few, size, held-longest (kind s) (points s) (omega (arith, enough, least-two (kind s))))
 
   some-ticks : 1 ≤ ticks s
   some-ticks = omega (arith, enough, least-two (kind s), legs-at-least (kind s) (points s), sum-at-least (leg s) 1 (legs s) leg-low)

@@ -5,3 +5,4 @@ pub mod ByKind
 pub mod Lowest
 pub mod Told
 pub mod Laws
+pub mod Longest
