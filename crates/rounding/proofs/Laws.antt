@@ -11,6 +11,26 @@ use Rattle.integers.proofs.Order.{le-pos, pos-le, nonneg, abs-add, abs-mul, abs
 use Rattle.integers.proofs.Linear.{lin, _≐_, _≼_, _≺_, ∣_∣≼_, _⊢_by_, _⊢_≗_with_, hyp, low, nat, _⊞_, _⊠_}
 use Rattle.rounding.specs.Rounded.{floor, rounded}
 
+-- ---- by computing
+-- W1 and W2: 5.5 and -5.5 give 6 and -5
+pub half-above : rounded (pos 11) 2 ≡ pos 6
+unfolding rounded floor
+half-above = refl
+
+pub half-below : rounded (negsuc 10) 2 ≡ negsuc 4
+unfolding rounded floor
+half-below = refl
+
+-- W3's second bend number: from the fifth pass on -157,286 / 4, which is -39,321.5
+pub half-bend : rounded (negsuc 157285) 4 ≡ negsuc 39320
+unfolding rounded floor
+half-bend = refl
+
+-- -2.75 gives -3, where division that cuts toward zero gives -2
+pub below-zero : rounded (negsuc 10) 4 ≡ negsuc 2
+unfolding rounded floor
+below-zero = refl
+
 -- ---- the floor: x is d times its floor and a rest from 0 to d - 1
 rest-of : (x : ℤ) (d : ℕ) → 1 ≤ d → (r : ℕ) × (x ≡ pos d *ℤ floor x d +ℤ pos r) × (r < d)
 unfolding floor
@@ -97,23 +117,3 @@ rounded-half q d h =
     (lin 2 (λ q d. [] ⊢ # 2 ⊗ (# 2 ⊗ d) ⊗ (q ⊕ # 1) ≼ # 2 ⊗ (# 2 ⊗ d ⊗ q ⊕ d) ⊕ # 2 ⊗ d by nat 0 ∷ []) tt q (pos d))
     (lin 2 (λ q d. # 1 ≼ d ∷ [] ⊢ # 2 ⊗ (# 2 ⊗ d ⊗ q ⊕ d) ⊕ # 2 ⊗ d ≺ # 2 ⊗ (# 2 ⊗ d) ⊗ (q ⊕ # 1) ⊕ # 2 ⊗ (# 2 ⊗ d) by nat 4 ⊠ hyp 0 ∷ []) tt
     q (pos d) (pos-le 1 d h)))
-
--- ---- by computing
--- W1 and W2: 5.5 and -5.5 give 6 and -5
-pub half-above : rounded (pos 11) 2 ≡ pos 6
-unfolding rounded floor
-half-above = refl
-
-pub half-below : rounded (negsuc 10) 2 ≡ negsuc 4
-unfolding rounded floor
-half-below = refl
-
--- W3's second bend number: from the fifth pass on -157,286 / 4, which is -39,321.5
-pub half-bend : rounded (negsuc 157285) 4 ≡ negsuc 39320
-unfolding rounded floor
-half-bend = refl
-
--- -2.75 gives -3, where division that cuts toward zero gives -2
-pub below-zero : rounded (negsuc 10) 4 ≡ negsuc 2
-unfolding rounded floor
-below-zero = refl

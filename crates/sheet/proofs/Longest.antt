@@ -7,7 +7,7 @@ use native.Mathlib.Omega.{arith}
 use lib.Dec.{ltb, eqb}
 use lib.ListN.{length, replicate, length-replicate}
 use Rattle.sheet.specs.Bytes.{byte, be16, be32, signed32, anyBelow}
-use Rattle.sheet.specs.Fields.{leg, waypoint, slope}
+use Rattle.sheet.specs.Fields.{lengthField, points, leg, waypoint, slope}
 use Rattle.sheet.specs.Reading.{Accepted, legOutside, reachOutside, slopeOutside}
 use Rattle.sheet.specs.Theorems.{Longest}
 use Rattle.sheet.specs.declared.Refusal.the-variants.{Torn, Edition, Ends, Points, Size, Leg, Reach, Slope, Shelf, Past, Adrift, Bend, Landed}
@@ -53,6 +53,10 @@ full-length : length full ≡ 7_198
 unfolding full
 full-length = omega (arith, body-length 511 6168)
 
+head : (lengthField full ≡ 7_198) × (points full ≡ 512)
+unfolding full be16 be32
+head = (refl, refl)
+
 -- behind the first eight bytes
 abbrev eight : ℕ → ℕ
 eight k = suc (suc (suc (suc (suc (suc (suc (suc k)))))))
@@ -75,10 +79,10 @@ rest-number i h = rw (rest i h, rest (i + 1) (omega arith), rest (i + 2) (omega 
 
 accepted : Accepted full
 unfolding full be16 be32 signed32
-accepted Torn h = ap (λ n. ltb n 8 || not (eqb (be32 full 0) n)) full-length
+accepted Torn h = (λ i. ltb (full-length i) 8 || not (eqb (head .0 i) (full-length i)))
 accepted Edition h = refl
 accepted Ends h = refl
-accepted Points h = refl
+accepted Points h = ap (λ n. ltb n 2 || ltb 512 n) (head .1)
 accepted Size h = ap (λ n. not (eqb n 7_198)) full-length
 accepted Leg h = none-any (λ i. legOutside (leg full i)) 511 (λ i k. ap legOutside (leg-one i k))
 accepted Reach h =

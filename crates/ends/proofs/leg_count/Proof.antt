@@ -1,10 +1,15 @@
 -- `ends::leg_count` meets its contract: each arm is the definition's line for the kind that it tells.
-use mathlib.Core.Path.{sym, ap}
+use mathlib.Core.Path.{_≡_, refl, sym, ap}
 use borrow.Author.Needs.{needs}
 use Rattle.ends.specs.Ends.{legCount}
 use Rattle.ends.specs.declared.EndKind.{EndKind}
+use Rattle.ends.specs.declared.EndKind.the-variants.{Closed}
 use Rattle.ends.proofs.leg_count.Statement.{statement}
 use Rattle.ends.proofs.leg_count.Tie as tie
+
+-- tried at a closed course of 3: 3 legs
+three : legCount Closed 3 ≡ 3
+three = refl
 
 enum-told : tie.Need-enum-told
 enum-told c = search needs

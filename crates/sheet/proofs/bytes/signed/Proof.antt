@@ -1,5 +1,5 @@
 -- `sheet::bytes::signed` meets its contract: moved up by 2^31 modulo 2^32 and back the number is itself, or 2^32 less where its top bit is set.
-use mathlib.Core.Path.{_≡_, _∙_, ap, subst, sym}
+use mathlib.Core.Path.{_≡_, refl, _∙_, ap, subst, sym}
 use Prim.Native.Nat.{ℕ, _+_, _%_, _≤_, _<_}
 use native.Mathlib.Omega.{arith}
 use lib.IntN.{ℤ, pos, natAbs, _-ℤ_}
@@ -8,10 +8,19 @@ use mir.Val.{SFits, toZ}
 use mir.ValLaws.{toZ-pos}
 use borrow.Author.Needs.{needs}
 use Rattle.integers.proofs.Machine.{fits-abs, back, fits-back}
+use Rattle.integers.proofs.Tried.{Tried, tried}
 use Rattle.sheet.specs.Bytes.{signed32}
 use Rattle.sheet.proofs.Numbers.{moved-back, signed-size}
 use Rattle.sheet.proofs.bytes.signed.Statement.{statement}
 use Rattle.sheet.proofs.bytes.signed.Tie as tie
+
+-- tried at the bits 0: the number 0
+none : tie.Start
+none = record { args = record { x = 0 }; good = search needs; fits = search needs; pre = search needs }
+
+none-tried : Tried
+unfolding signed32 none
+none-tried = tried (λ (need : tie.Need-returns). need none .0) refl
 
 -- what the code subtracts from
 meant : (x : ℕ) → x < 4294967296 → toZ w64 ((x + 2147483648) % 4294967296) -ℤ pos 2147483648 ≡ signed32 x
