@@ -1,6 +1,6 @@
 -- The code compares the remainder r with half of x rounded up, in place of 2r with x, for x the divisor or its negative: nothing overflows.
-use mathlib.Core.Path.{_≡_, refl, ap, _∙_}
-use mathlib.Core.Bool.{Bool, true, false}
+use mathlib.Core.Path.{_≡_, refl, sym, ap, _∙_}
+use mathlib.Core.Bool.{Bool, true, false, cond}
 use mathlib.Core.List.{[], _∷_}
 use Prim.Native.Nat.{_+_, _*_, _/_, _≤_, _<_, _^_}
 use native.Mathlib.Nat.{div-add-mod, mod-lt}
@@ -53,6 +53,10 @@ serves x c y e h l = record {
   fits = fits-back e (half-fits x c h l);
   test = λ r f. (λ i. ltZ (back refl f i) (back e (half-fits x c h l) i)) ∙ half-test x c r h;
 }
+
+-- what the code's test of r chooses, the definition's test chooses
+pub chosen : {x y r : ℤ} → Serves x y → SFits w64 r → (p q : ℤ) {b : Bool} → ltZ (read r) (read y) ≡ b → cond b p q ≡ cond (ltZ (pos 2 *ℤ r) x) p q
+chosen {r = r} v f p q t = ap (λ b. cond b p q) (sym t ∙ v .test r f)
 
 -- the divisor d halved by the machine is h with 2h ≤ d ≤ 2h + 1, and half of d rounded up is d - h, of -d it is -h
 module _ (d : ℤ) (p : pos 1 ≤ℤ d) (f : SFits w64 d) where

@@ -1,10 +1,9 @@
 -- `rounding::goes_down` meets its contract: the code compares r with half of -d, rounded up.
-use mathlib.Core.Path.{refl, sym, ap, _∙_}
-use mathlib.Core.Bool.{cond}
+use mathlib.Core.Path.{refl}
 use native.Mathlib.Omega.{arith}
 use borrow.Author.Needs.{needs}
 use lib.IntN.{pos, negsuc}
-use Rattle.rounding.proofs.Half.{made-fits, serves-down}
+use Rattle.rounding.proofs.Half.{made-fits, serves-down, chosen}
 use Rattle.rounding.proofs.goes_down.Statement.{statement}
 use Rattle.rounding.proofs.goes_down.Tie as tie
 
@@ -28,14 +27,10 @@ sub-if1 : tie.Need-sub-if1
 sub-if1 c = serves-down (c .args .d) (c .pre) (c .fits .d) .fits
 
 returns : tie.Need-returns
-returns c =
-    let s = c .before in
-    ap (λ b. cond b (pos 1) (pos 0)) (sym (c .if1 .taken) ∙ serves-down (s .args .d) (s .pre) (s .fits .d) .test (s .args .r) (s .fits .r))
+returns c = let s = c .before in chosen (serves-down (s .args .d) (s .pre) (s .fits .d)) (s .fits .r) (pos 1) (pos 0) (c .if1 .taken)
 
 returns-2 : tie.Need-returns-2
-returns-2 c =
-    let s = c .before in
-    ap (λ b. cond b (pos 1) (pos 0)) (sym (c .if1 .left) ∙ serves-down (s .args .d) (s .pre) (s .fits .d) .test (s .args .r) (s .fits .r))
+returns-2 c = let s = c .before in chosen (serves-down (s .args .d) (s .pre) (s .fits .d)) (s .fits .r) (pos 1) (pos 0) (c .if1 .left)
 
 pub goes-down-spec : {M : Type 1} → statement M
 goes-down-spec = tie.close (tie.spec div-if1 sub-if1 returns returns-2)
