@@ -75,7 +75,7 @@ fn add_legs(s: &[u8], count: usize) -> Legs
     Legs { ticks, outside }
 }
 
-// The bits of a waypoint's three numbers (S7), or of one end's three slopes (S8).
+// The bits of a waypoint's three numbers (S7), or of one side's three slopes (S8).
 struct Triple {
     north: u64,
     east: u64,
@@ -125,7 +125,7 @@ fn waypoints_beyond(s: &[u8], from: usize, count: usize) -> bool
     false
 }
 
-// N8, of the end whose slopes start at `at`.
+// N8, of the side whose slopes start at `at`.
 fn side_beyond(s: &[u8], at: usize) -> bool
     requires { ⌜ at + 12 ≤ length (now s) ⌝ }
     ensures { λ r. ⌜ r ≡ anyBelow (λ axis. slopeOutside (signed32 (be32 (now (s .entry)) (at + 4 * axis)))) 3 ⌝ }

@@ -1,9 +1,10 @@
 -- `sheet::reader::add_legs` meets its contract. The loop's invariant: sum and flag are those of the legs so far, and the sum is small enough to fit.
 use mathlib.Core.Path.{_≡_, refl, sym, ap, _∙_}
 use mathlib.Core.Bool.{_||_}
-use Prim.Native.Nat.{_*_, _-_, _≤_}
+use mathlib.Core.List.{[], _∷_}
+use Prim.Native.Nat.{ℕ, _+_, _*_, _-_, _≤_}
 use native.Mathlib.Omega.{arith}
-use Rattle.sheet.specs.Bytes.{anyBelow, sumBelow}
+use Rattle.sheet.specs.Bytes.{be16, anyBelow, sumBelow}
 use Rattle.sheet.specs.Fields.{leg}
 use Rattle.sheet.specs.Reading.{legOutside}
 use Rattle.sheet.proofs.Below.{any-step, sum-step}
@@ -16,6 +17,12 @@ Inv-loop s count ticks₀ outside₀ i₀ ticks outside i =
 
 abbrev μ-loop : tie.MeasureT-loop
 μ-loop s count ticks₀ outside₀ i₀ ticks outside i = count - i
+
+-- tried at a sheet whose first leg is 5
+first-tried : (c : tie.After-read16 Inv-loop μ-loop) → c .before .before .before .before .args .s .now ≡ (0 ∷ 0 ∷ 0 ∷ 0 ∷ 0 ∷ 0 ∷ 0 ∷ 2 ∷ 0 ∷ 5 ∷ [])
+    → c .before .before .loop .i ≡ 0 → c .read16 .result ≡ 5
+unfolding be16
+first-tried c e f = let from : ℕ = _ in c .read16 .ensures .0 ∙ (λ j. be16 (e j) (from + 2 * f j))
 
 loop-holds : tie.Need-loop-holds Inv-loop μ-loop
 unfolding anyBelow sumBelow

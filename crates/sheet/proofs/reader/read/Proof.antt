@@ -1,12 +1,12 @@
 -- `sheet::reader::read` meets its contract: a torn sheet is told, and one that is not leaves the rest of the chain.
 use mathlib.Core.Path.{_≡_, sym, ap, _∙_}
-use mathlib.Core.List.{List}
+use mathlib.Core.List.{List, [], _∷_}
 use Prim.Native.Nat.{ℕ}
 use borrow.Author.Tests.{le-ltb, lt-ltb, eq-eqb, ne-eqb}
 use lib.ListN.{length}
 use borrow.Author.Needs.{needs}
 use Rattle.sheet.specs.Answers.{told}
-use Rattle.sheet.specs.Bytes.{be32}
+use Rattle.sheet.specs.Bytes.{be16, be32}
 use Rattle.sheet.specs.Reading.{mostPoints, lowest, readBy, readSheet}
 use Rattle.sheet.specs.declared.Refusal.the-variants.{Torn}
 use Rattle.sheet.proofs.Lowest.{past, passed, stopped}
@@ -22,6 +22,11 @@ returns c = let s = S (c .before .before) in ap told (stopped s Torn (past 1) (s
 
 read32-requires : tie.Need-read32-requires
 read32-requires c κs = search needs
+
+-- tried at a sheet that states 8 bytes
+length-tried : (c : tie.After-read32) → S (c .before .before .before) ≡ (0 ∷ 0 ∷ 0 ∷ 8 ∷ 1 ∷ 0 ∷ 0 ∷ 2 ∷ []) → c .read32 .result ≡ 8
+unfolding be16 be32
+length-tried c e = let at : ℕ = _ in c .read32 .ensures .0 ∙ ap (λ (s : List ℕ). be32 s at) e
 
 is-length : (c : tie.After-read32) → c .read32 .result ≡ be32 (S (c .before .before .before)) 0
 is-length c = c .read32 .ensures .0

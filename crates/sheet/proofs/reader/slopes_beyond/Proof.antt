@@ -1,14 +1,14 @@
 -- `sheet::reader::slopes_beyond` meets its contract: the definition's line for the kind; a held course has two sides.
 use mathlib.Core.Path.{_≡_, _∙_, ap, sym}
-use mathlib.Core.Bool.{Bool, _||_}
-use mathlib.Core.List.{List}
+use mathlib.Core.Bool.{Bool, true, _||_}
+use mathlib.Core.List.{List, [], _∷_}
 use Prim.Native.Nat.{ℕ, _+_, _*_}
 use native.Mathlib.Nat.{add-zero}
 use native.Mathlib.Omega.{arith}
 use borrow.Author.Needs.{needs}
 use Rattle.ends.specs.declared.EndKind.{EndKind}
 use Rattle.ends.specs.declared.EndKind.the-variants.{Held}
-use Rattle.sheet.specs.Bytes.{be32, signed32, anyBelow}
+use Rattle.sheet.specs.Bytes.{be16, be32, signed32, anyBelow}
 use Rattle.sheet.specs.Fields.{slopeBytes, slopesFrom}
 use Rattle.sheet.specs.Reading.{slopeOutside, slopesOutside}
 use Rattle.sheet.proofs.reader.slopes_beyond.Statement.{statement}
@@ -21,6 +21,13 @@ side s at = anyBelow (λ axis. slopeOutside (signed32 (be32 s (at + 4 * axis))))
 held : (s : List ℕ) (from : ℕ) {a b : Bool} → from ≡ slopesFrom s → a ≡ side s from → b ≡ side s (from + 12) → (a || b) ≡ slopesOutside Held s
 unfolding anyBelow
 held s from e p q = let o = e ∙ sym (add-zero (slopesFrom s)) in (λ i. p i || q i) ∙ (λ i. side s (o i) || side s (e i + 12))
+
+-- tried at the slopes 0, 0, 0 and 5,001, 0, 0: beyond
+end-tried : (c : tie.After-side-beyond2)
+    → c .before .before .before .before .before .args .s .now ≡ (0 ∷ 0 ∷ 0 ∷ 0 ∷ 0 ∷ 0 ∷ 0 ∷ 0 ∷ 0 ∷ 0 ∷ 0 ∷ 0 ∷ 0 ∷ 0 ∷ 19 ∷ 137 ∷ [])
+    → c .before .before .before .before .before .args .from ≡ 0 → c .side-beyond2 .result ≡ true
+unfolding be16 be32 signed32 anyBelow
+end-tried c e f = let off : ℕ = _ in c .side-beyond2 .ensures ∙ (λ j. side (e j) (f j + off))
 
 enum-told : tie.Need-enum-told
 enum-told c = search needs
