@@ -7,7 +7,7 @@ use native.Mathlib.Omega.{arith}
 use lib.IntN.{pos, natAbs}
 use lib.ListN.{getD, replicate}
 use borrow.Author.Tests.{eq-eqb, ne-eqb}
-use Rattle.answers.specs.Answers.{done, passOn, guard}
+use Rattle.answers.specs.Answers.{done, bare, passOn, guard}
 use Rattle.sheet.proofs.Told.{number-positive}
 use Rattle.sheet.specs.Answers.{Told, refused}
 use Rattle.sheet.specs.Bytes.{be16, be32, signed32, anyBelow, sumBelow}
@@ -17,7 +17,7 @@ use Rattle.sheet.specs.declared.Reading.the-variants as R
 use Rattle.sheet.specs.declared.Refusal.{Refusal}
 use Rattle.sheet.specs.declared.Refusal.the-variants.{Adrift, Landed}
 use Rattle.runner.specs.Ticks.{runner, found}
-use Rattle.runner.specs.Steps.{adrift, landed, moved, stepped, stepAnswer, onward}
+use Rattle.runner.specs.Steps.{adrift, landed, moved, stepped, onward}
 use Rattle.runner.specs.declared.Runner.{Runner}
 
 -- free, one leg of 4, both waypoints at 0
@@ -58,21 +58,17 @@ found-injective a b e =
     λ i. runner (x i) (y i)
 
 module _ (s : List ℕ) (r : Runner) where
-  answer-by : (t : Told) → t ≡ stepped s r → record { number = t .number; values = done .values } ≡ stepAnswer s r
-  unfolding stepAnswer
-  answer-by t e = ap (λ (u : Told). record { number = u .number; values = done .values }) e
-
   -- the step answered the runner `next`
-  pub kept-moved : (next : Runner) → found next ≡ stepped s r → (done ≡ stepAnswer s r) × (runner (next .leg) (next .offset) ≡ onward s r)
+  pub kept-moved : (next : Runner) → found next ≡ stepped s r → (done ≡ bare (stepped s r)) × (runner (next .leg) (next .offset) ≡ onward s r)
   unfolding onward
   kept-moved next e =
       let zero-number : stepped s r .number ≡ 0 = ap (λ (t : Told). t .number) (sym e) in
       let same : next ≡ moved s r = found-injective next (moved s r) (e ∙ moved-when-done s r zero-number) in
-      (answer-by (found next) e, same ∙ sym (ap (λ (b : Bool). cond b (moved s r) r) (eq-eqb (stepped s r .number) 0 zero-number)))
+      (ap bare e, same ∙ sym (ap (λ (b : Bool). cond b (moved s r) r) (eq-eqb (stepped s r .number) 0 zero-number)))
 
   -- the step was refused
-  pub kept-refused : (q : Refusal) → refused q ≡ stepped s r → (refused q ≡ stepAnswer s r) × (r ≡ onward s r)
+  pub kept-refused : (q : Refusal) → refused q ≡ stepped s r → (refused q ≡ bare (stepped s r)) × (r ≡ onward s r)
   unfolding onward
   kept-refused q e =
       let some : stepped s r .number ≡ 0 → ⊥ = λ z. never-zero q (ap (λ (t : Told). t .number) e ∙ z) in
-      (answer-by (refused q) e, sym (ap (λ (b : Bool). cond b (moved s r) r) (ne-eqb (stepped s r .number) 0 some)))
+      (ap bare e, sym (ap (λ (b : Bool). cond b (moved s r) r) (ne-eqb (stepped s r .number) 0 some)))

@@ -1,4 +1,4 @@
--- A step adds one to the tick, modulo P on a closed course and up to P on an open one; any count of steps follows by induction (DESIGN 3.6).
+-- A step adds one to the tick, modulo P on a closed course and up to P on an open one; any count of steps follows by induction.
 use mathlib.Core.Path.{_≡_, refl, sym, ap, _∙_, subst, subst₂}
 use mathlib.Core.Bool.{Bool, true, false, cond, true≢false, false≢true}
 use mathlib.Core.List.{List}
@@ -20,7 +20,7 @@ use Rattle.runner.specs.Steps.{landed, lastStep, moved, stepped, onward,
 use Rattle.runner.specs.Theorems.{Stands, ClosedSteps, OpenSteps, StepBefore}
 use Rattle.runner.specs.declared.Runner.{Runner}
 use Rattle.runner.proofs.Walk.{by-order}
-use Rattle.runner.proofs.Standing.{Standing, on-leg, at-end, standing, not-adrift, at-end-of, before-end, has-legs, tick-before, tick-at-end, has-tick, spot-only, closed-spot}
+use Rattle.runner.proofs.Standing.{Standing, on-leg, at-end, standing, not-adrift, landed-at-end, not-landed, has-legs, tick-before, tick-at-end, has-tick, spot-only, closed-spot}
 
 -- the tick, of p in all, that a count of steps reaches: on an open course and on a closed one
 abbrev reached : Bool → ℕ → ℕ → ℕ
@@ -104,12 +104,12 @@ module _ (s : List ℕ) (a : Accepted s) where
   -- before the end a step answers where the runner has moved on to ..
   step-done : (r : Runner) → r .leg < legs s → r .offset < leg s (r .leg) → stepped s r ≡ found (moved s r)
   unfolding stepped
-  step-done r p q = simp (accepted-read s a, not-adrift s r (on-leg p q), before-end s r q)
+  step-done r p q = simp (accepted-read s a, not-adrift s r (on-leg p q), not-landed s r q)
 
   -- .. and at the end landed
   step-landed : (r : Runner) → isOpen (kind s) ≡ true → suc (r .leg) ≡ legs s → r .offset ≡ leg s (r .leg) → stepped s r ≡ refused Landed
   unfolding stepped
-  step-landed r o p q = simp (accepted-read s a, not-adrift s r (at-end o p q), at-end-of s r o p q)
+  step-landed r o p q = simp (accepted-read s a, not-adrift s r (at-end o p q), landed-at-end s r o p q)
 
   -- a step from any runner that fits the sheet
   onward-from : (r : Runner) → Standing s r → After s (suc (tickOf s r)) (onward s r)
@@ -149,5 +149,5 @@ pub step-before : StepBefore
 step-before s a r e = by-place (standing s r e)
   where
     by-place : Standing s r → (landed s r ≡ true → tickOf s r ≡ ticks s) × (landed s r ≡ false → stepped s r .number ≡ 0)
-    by-place (on-leg p q) = (λ l. absurd (true≢false (sym l ∙ before-end s r q)), λ l. ap (λ t. t .number) (step-done s a r p q))
-    by-place (at-end o p q) = (λ l. tick-at-end s r p q, λ l. absurd (true≢false (sym (at-end-of s r o p q) ∙ l)))
+    by-place (on-leg p q) = (λ l. absurd (true≢false (sym l ∙ not-landed s r q)), λ l. ap (λ t. t .number) (step-done s a r p q))
+    by-place (at-end o p q) = (λ l. tick-at-end s r p q, λ l. absurd (true≢false (sym (landed-at-end s r o p q) ∙ l)))

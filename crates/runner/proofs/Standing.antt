@@ -1,4 +1,4 @@
--- Ticks and runners name each other (DESIGN 3.6). A runner that is not adrift stands below its leg's length or at the end of an open course; the walk finds
+-- Ticks and runners name each other (P3, M3). A runner that is not adrift stands below its leg's length or at the end of an open course; the walk finds
 -- exactly such a runner for each tick that the course has.
 use mathlib.Core.Path.{_≡_, refl, sym, ap, _∙_}
 use mathlib.Core.Bool.{Bool, true, false, not, _&&_, _||_, true≢false, false≢true, and-eq-true-iff, and-false}
@@ -19,12 +19,12 @@ use Rattle.sheet.specs.Bytes.{sumBelow}
 use Rattle.sheet.specs.Fields.{kind, points, legs, leg, ticks}
 use Rattle.sheet.specs.Reading.{Accepted}
 use Rattle.runner.specs.Ticks.{isOpen, reduced, walk, spotAt, tickOf}
-use Rattle.runner.specs.Steps.{atEnd, adrift}
+use Rattle.runner.specs.Steps.{landed, adrift}
 use Rattle.runner.specs.Theorems.{Stands, TickStands, OneRunner}
 use Rattle.runner.specs.declared.Runner.{Runner}
 use Rattle.runner.proofs.Walk.{Found, walk-finds, walk-only}
 
--- what "not adrift" says: on a leg, below its length, or at the end of an open course
+-- M3, what is left by N11: on a leg, below its length, or at the end of an open course
 pub data Standing (s : List ℕ) (r : Runner) : Type 0 where
   on-leg : r .leg < legs s → r .offset < leg s (r .leg) → Standing s r
   at-end : isOpen (kind s) ≡ true → suc (r .leg) ≡ legs s → r .offset ≡ leg s (r .leg) → Standing s r
@@ -39,34 +39,34 @@ pub standing : (s : List ℕ) (r : Runner) → adrift s r ≡ false → Standing
 unfolding adrift
 standing s r e = ⊎-elim (λ below. on-leg (ltb-true _ _ (p .0)) (ltb-true _ _ below)) ended (p .1)
   where
-    p : (ltb (r .leg) (legs s) ≡ true) × ((ltb (r .offset) (leg s (r .leg)) ≡ true) ⊎ (atEnd s r ≡ true))
+    p : (ltb (r .leg) (legs s) ≡ true) × ((ltb (r .offset) (leg s (r .leg)) ≡ true) ⊎ (landed s r ≡ true))
     p = parts _ _ _ e
 
-    ended : atEnd s r ≡ true → Standing s r
+    ended : landed s r ≡ true → Standing s r
     ended a =
         let q = and-eq-true-iff (isOpen (kind s) && eqb (suc (r .leg)) (legs s)) (eqb (r .offset) (leg s (r .leg))) .0 a in
         let o = and-eq-true-iff (isOpen (kind s)) (eqb (suc (r .leg)) (legs s)) .0 (q .0) in
         at-end (o .0) (eqb-true _ _ (o .1)) (eqb-true _ _ (q .1))
 
-pub at-end-of : (s : List ℕ) (r : Runner) → isOpen (kind s) ≡ true → suc (r .leg) ≡ legs s → r .offset ≡ leg s (r .leg) → atEnd s r ≡ true
-at-end-of s r o e q = simp (o, eq-eqb _ _ e, eq-eqb _ _ q)
+pub landed-at-end : (s : List ℕ) (r : Runner) → isOpen (kind s) ≡ true → suc (r .leg) ≡ legs s → r .offset ≡ leg s (r .leg) → landed s r ≡ true
+landed-at-end s r o e q = simp (o, eq-eqb _ _ e, eq-eqb _ _ q)
 
-pub before-end : (s : List ℕ) (r : Runner) → r .offset < leg s (r .leg) → atEnd s r ≡ false
-before-end s r q = simp (ne-eqb (r .offset) (leg s (r .leg)) (λ e. omega arith), and-false)
+pub not-landed : (s : List ℕ) (r : Runner) → r .offset < leg s (r .leg) → landed s r ≡ false
+not-landed s r q = simp (ne-eqb (r .offset) (leg s (r .leg)) (λ e. omega arith), and-false)
 
 pub not-adrift : (s : List ℕ) (r : Runner) → Standing s r → adrift s r ≡ false
 unfolding adrift
 not-adrift s r (on-leg p q) = simp (lt-ltb _ _ p, lt-ltb _ _ q)
-not-adrift s r (at-end o e q) = simp (lt-ltb (r .leg) (legs s) (omega arith), le-ltb (r .offset) (leg s (r .leg)) (omega arith), at-end-of s r o e q)
+not-adrift s r (at-end o e q) = simp (lt-ltb (r .leg) (legs s) (omega arith), le-ltb (r .offset) (leg s (r .leg)) (omega arith), landed-at-end s r o e q)
 
 pub leg-below : (s : List ℕ) (r : Runner) → Standing s r → r .leg < legs s
 leg-below s r (on-leg p q) = p
 leg-below s r (at-end o e q) = omega arith
 
 -- one that has not landed can go on along its leg
-pub offset-below : (s : List ℕ) (r : Runner) → Standing s r → atEnd s r ≡ false → r .offset < leg s (r .leg)
+pub offset-below : (s : List ℕ) (r : Runner) → Standing s r → landed s r ≡ false → r .offset < leg s (r .leg)
 offset-below s r (on-leg p q) e = q
-offset-below s r (at-end o p q) e = absurd (true≢false (sym (at-end-of s r o p q) ∙ e))
+offset-below s r (at-end o p q) e = absurd (true≢false (sym (landed-at-end s r o p q) ∙ e))
 
 -- the ticks that a course has: those below P, and P itself where it is open
 abbrev pub HasTick : List ℕ → ℕ → Type 0

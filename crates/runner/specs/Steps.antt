@@ -1,6 +1,6 @@
--- The step: a runner moved on by one tick (01, Places).
+-- The step: N11, N13, A7, A9 and M2, and any count of steps for M4 and M5.
 use mathlib.Core.Bool.{Bool, not, cond, _&&_, _||_}
-use mathlib.Core.List.{List, []}
+use mathlib.Core.List.{List}
 use Prim.Native.Nat.{ℕ, zero, suc}
 use lib.Dec.{ltb, eqb}
 use Rattle.ends.specs.declared.EndKind.{EndKind}
@@ -13,17 +13,13 @@ use Rattle.answers.specs.Answers.{passOn, guard}
 use Rattle.runner.specs.Ticks.{runner, found, isOpen}
 use Rattle.runner.specs.declared.Runner.{Runner}
 
--- at the end of an open course: the last leg at full offset
-abbrev pub atEnd : List ℕ → Runner → Bool
-atEnd s r = isOpen (kind s) && eqb (suc (r .leg)) (legs s) && eqb (r .offset) (leg s (r .leg))
-
--- number 11: "the runner's leg or offset doesn't fit the sheet". 01: "The offset is below its leg's length, save at the end of an open course."
-unfoldable pub adrift : List ℕ → Runner → Bool
-adrift s r = not (ltb (r .leg) (legs s)) || not (ltb (r .offset) (leg s (r .leg)) || atEnd s r)
-
--- number 13: "an open course's runner is already at its last tick"
+-- N13: at the end of an open course, which is the full last leg
 abbrev pub landed : List ℕ → Runner → Bool
-landed s r = atEnd s r
+landed s r = isOpen (kind s) && eqb (suc (r .leg)) (legs s) && eqb (r .offset) (leg s (r .leg))
+
+-- N11: on none of the legs, or past the end of its leg without having landed
+unfoldable pub adrift : List ℕ → Runner → Bool
+adrift s r = not (ltb (r .leg) (legs s)) || not (ltb (r .offset) (leg s (r .leg)) || landed s r)
 
 -- past the last leg: round to the first waypoint, or at the end of an open course
 abbrev pub lastStep : EndKind → Runner → Runner
@@ -37,19 +33,15 @@ moved s r =
     cond (ltb (suc (r .offset)) (leg s (r .leg))) (runner (r .leg) (suc (r .offset)))
     (cond (ltb (suc (r .leg)) (legs s)) (runner (suc (r .leg)) 0) (lastStep (kind s) r))
 
--- 01: "A step tests 1 to 8, 11 and 13." By value the step answers the runner moved on.
+-- A7: by value the step answers the runner moved on, over a lent record its number alone (`bare`)
 unfoldable pub stepped : List ℕ → Runner → Told
 stepped s r = passOn (readSheet s) (guard (adrift s r) Adrift (guard (landed s r) Landed (found (moved s r))))
 
--- 01: "it and a step answer only that they are done": the answer of the step over a lent record
-unfoldable pub stepAnswer : List ℕ → Runner → Told
-stepAnswer s r = record { number = stepped s r .number; values = [] }
-
--- the record that a step leaves: moved on, or as it was where the step is refused
+-- M2, A9: the record that a step leaves, moved on or, where the step is refused, as it was
 unfoldable pub onward : List ℕ → Runner → Runner
 onward s r = cond (eqb (stepped s r .number) 0) (moved s r) r
 
--- after n steps from the first waypoint
+-- M4, M5: the record after n steps from the first waypoint
 unfoldable pub after : List ℕ → ℕ → Runner
 after s zero = runner 0 0
 after s (suc n) = onward s (after s n)

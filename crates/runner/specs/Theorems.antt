@@ -1,4 +1,4 @@
--- What is proved of ticks and runners (demand 2: "a runner moved on any number of ticks stands where the tick count names, or at an open course's end").
+-- What is proved of ticks and runners: P3, P4, M3 to M5, N13.
 use mathlib.Core.Path.{_≡_}
 use mathlib.Core.Bool.{true, false}
 use mathlib.Core.List.{List}
@@ -12,29 +12,30 @@ use Rattle.runner.specs.Ticks.{isOpen, spotAt, tickOf}
 use Rattle.runner.specs.Steps.{adrift, landed, stepped, after}
 use Rattle.runner.specs.declared.Runner.{Runner}
 
--- where a tick stands on an accepted sheet: the tick itself (closed: modulo P), on a runner that is not adrift
+-- r is not adrift and stands at tick t
 pub record Stands (s : List ℕ) (t : ℕ) (r : Runner) : Type 0 where
   pub fits : adrift s r ≡ false
   pub tick : tickOf s r ≡ t
 
+-- P3, P4: the runner from a tick stands at it, closed courses going round
 abbrev pub TickStands : Type 0
 TickStands = (s : List ℕ) → Accepted s → (t : ℕ)
     → (isOpen (kind s) ≡ true → t ≤ ticks s → Stands s t (spotAt s t)) × (kind s ≡ Closed → Stands s (t % ticks s) (spotAt s t))
 
--- a runner that is not adrift is the one that its own tick names: no two runners stand at one tick
+-- P3: no two runners that are not adrift stand at one tick
 abbrev pub OneRunner : Type 0
 OneRunner = (s : List ℕ) → Accepted s → (r : Runner) → adrift s r ≡ false → spotAt s (tickOf s r) ≡ r
 
--- 01: "After any count of steps from the first waypoint, a number without upper limit, a closed runner stands at the count modulo P; ..
+-- M4, for every n
 abbrev pub ClosedSteps : Type 0
 ClosedSteps = (s : List ℕ) → Accepted s → kind s ≡ Closed → (n : ℕ) → after s n ≡ spotAt s n
 
--- .. an open one at the count, or at P if that is smaller, each later step saying landed."
+-- M5, for every n
 abbrev pub OpenSteps : Type 0
 OpenSteps = (s : List ℕ) → Accepted s → isOpen (kind s) ≡ true → (n : ℕ)
     → (after s n ≡ spotAt s (min n (ticks s))) × (ticks s ≤ n → stepped s (after s n) ≡ refused Landed)
 
--- row 13 of the table: landed is said nowhere but at the last tick; before it the step is done
+-- N13: landed is said at P alone; before it the step is done
 abbrev pub StepBefore : Type 0
 StepBefore = (s : List ℕ) → Accepted s → (r : Runner) → adrift s r ≡ false
     → (landed s r ≡ true → tickOf s r ≡ ticks s) × (landed s r ≡ false → stepped s r .number ≡ 0)

@@ -1,4 +1,4 @@
--- The leg and offset that a tick names, and the runner from a tick (01, Places).
+-- The leg and offset of a tick (P3, P4), and the runner from a tick (N10, A6).
 use mathlib.Core.Path.{_≡_}
 use mathlib.Core.Bool.{Bool, true, false, cond, _&&_}
 use mathlib.Core.List.{List, [], _∷_}
@@ -34,25 +34,24 @@ abbrev pub toldRunner : RunnerAnswer → Told
 toldRunner (At r) = found r
 toldRunner (Refused r) = refused r
 
--- an open course has ends: kinds 0 and 1
+-- an open course has ends, free or held
 abbrev pub isOpen : EndKind → Bool
 isOpen Free = true
 isOpen Held = true
 isOpen Closed = false
 
--- 01: "A closed course answers any unsigned 64-bit tick, taken modulo P."
+-- P4: ticks of a closed course go round
 abbrev pub reduced : EndKind → ℕ → ℕ → ℕ
 reduced Free p t = t
 reduced Held p t = t
 reduced Closed p t = t % p
 
--- the leg i where it has the tick t, counted from its start, or one of the k legs after it; the last of them in any case.
--- 01: "A tick on an inner waypoint belongs to the leg that starts there; the last tick of an open course is the last leg at full offset."
+-- P3: leg i where t, counted from its start, is below its length, or else one of the k legs after it; the last of them in any case
 unfoldable pub walk : (ℕ → ℕ) → ℕ → ℕ → ℕ → Runner
 walk h zero i t = runner i t
 walk h (suc k) i t = cond (ltb t (h i)) (runner i t) (walk h k (suc i) (t - h i))
 
--- the leg and offset that a tick names
+-- P3, P4: the leg and offset of a tick
 unfoldable pub spotAt : List ℕ → ℕ → Runner
 spotAt s t = walk (leg s) (legs s - 1) 0 (reduced (kind s) (ticks s) t)
 
@@ -60,10 +59,10 @@ spotAt s t = walk (leg s) (legs s - 1) 0 (reduced (kind s) (ticks s) t)
 unfoldable pub tickOf : List ℕ → Runner → ℕ
 tickOf s r = sumBelow (leg s) (r .leg) + r .offset
 
--- number 10: "open course, tick above its last"
+-- N10: an open course has no tick over P
 abbrev pub past : List ℕ → ℕ → Bool
 past s t = isOpen (kind s) && ltb (ticks s) t
 
--- 01: "A runner from a tick tests 1 to 8 and 10."
+-- A6: the runner from a tick
 unfoldable pub runnerAtTick : List ℕ → ℕ → Told
 runnerAtTick s t = passOn (readSheet s) (guard (past s t) Past (found (spotAt s t)))

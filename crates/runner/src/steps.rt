@@ -1,10 +1,10 @@
-// The step: a runner moved on by one tick (01, Places).
+// The step (A7, M2): a runner moved on by one tick, by value and where it lies.
 ghost use mathlib.Core.Path.{_≡_};
 ghost use mathlib.Core.Bool.{false};
 ghost use Prim.Native.Nat.{_<_};
 ghost use Rattle.runner.specs.Ticks.{IsRead, runner, toldRunner};
-ghost use Rattle.answers.specs.Answers.{toldOutcome};
-ghost use Rattle.runner.specs.Steps.{adrift, landed, moved, stepped, stepAnswer, onward};
+ghost use Rattle.answers.specs.Answers.{toldOutcome, bare};
+ghost use Rattle.runner.specs.Steps.{adrift, landed, moved, stepped, onward};
 use crate::Runner;
 use crate::RunnerAnswer;
 use crate::ticks::is_open;
@@ -14,7 +14,7 @@ use sheet::Reading;
 use sheet::Refusal;
 use sheet::leg_length;
 
-// 13: "an open course's runner is already at its last tick".
+// N13: at the end of an open course.
 fn is_landed(s: &[u8], kind: EndKind, legs: usize, leg: u64, offset: u64) -> bool
     requires { ⌜ IsRead (now s) kind legs ⌝ }
     requires { ⌜ leg < legs ⌝ }
@@ -23,7 +23,7 @@ fn is_landed(s: &[u8], kind: EndKind, legs: usize, leg: u64, offset: u64) -> boo
     is_open(kind) & (leg + 1 == legs as u64) & (offset == leg_length(s, leg as usize))
 }
 
-// 11: "the runner's leg or offset doesn't fit the sheet".
+// N11: on no leg, or past the end of its leg; an open course's end is allowed.
 pub fn is_adrift(s: &[u8], kind: EndKind, legs: usize, leg: u64, offset: u64) -> bool
     requires { ⌜ IsRead (now s) kind legs ⌝ }
     ensures { λ r. ⌜ r ≡ adrift (now (s .entry)) (runner leg offset) ⌝ }
@@ -61,8 +61,8 @@ fn moved(s: &[u8], kind: EndKind, legs: usize, leg: u64, offset: u64) -> Runner
     }
 }
 
-// The step by value, on leg and offset: the runner moved on by one tick. Tests 1 to 8, 11 and 13.
-pub fn step_at(s: &[u8], leg: u64, offset: u64) -> RunnerAnswer
+// The step by value, on leg and offset. Tests 1 to 8, 11 and 13 (A7).
+pub fn stepped(s: &[u8], leg: u64, offset: u64) -> RunnerAnswer
     ensures { λ r. ⌜ toldRunner r ≡ stepped (now (s .entry)) (runner leg offset) ⌝ }
 {
     let reading = sheet::read(s);
@@ -85,23 +85,23 @@ pub fn step_at(s: &[u8], leg: u64, offset: u64) -> RunnerAnswer
 }
 
 // What a step leaves: leg and offset, moved on or as they were, and the outcome.
-pub struct Stepped {
+pub struct StepOutcome {
     pub leg: u64,
     pub offset: u64,
     pub outcome: Outcome,
 }
 
-// The covered step that the lent form calls: a refused one hands leg and offset back as they came.
-fn step_kept(s: &[u8], leg: u64, offset: u64) -> Stepped
-    ensures { λ r. ⌜ (toldOutcome (r .outcome) ≡ stepAnswer (now (s .entry)) (runner leg offset)) × (runner (r .leg) (r .offset) ≡ onward (now (s .entry)) (runner leg offset)) ⌝ }
+// The covered step under the lent one (F7): a refused one gives leg and offset back as they came (A9).
+fn onward(s: &[u8], leg: u64, offset: u64) -> StepOutcome
+    ensures { λ r. ⌜ (toldOutcome (r .outcome) ≡ bare (stepped (now (s .entry)) (runner leg offset))) × (runner (r .leg) (r .offset) ≡ onward (now (s .entry)) (runner leg offset)) ⌝ }
 {
-    match step_at(s, leg, offset) {
-        RunnerAnswer::At(next) => Stepped {
+    match stepped(s, leg, offset) {
+        RunnerAnswer::At(next) => StepOutcome {
             leg: next.leg,
             offset: next.offset,
             outcome: Outcome::Done,
         },
-        RunnerAnswer::Refused(r) => Stepped {
+        RunnerAnswer::Refused(r) => StepOutcome {
             leg,
             offset,
             outcome: Outcome::Refused(r),
@@ -109,25 +109,25 @@ fn step_kept(s: &[u8], leg: u64, offset: u64) -> Stepped
     }
 }
 
-// 01: "One runner record is lent to the step and moved on in place, by one tick." Tests 1 to 8, 11 and 13; a refused step leaves the record as it was.
+// M2: the step over a lent record. Tests 1 to 8, 11 and 13; a refused one leaves the record alone (A9).
 pub fn step(s: &[u8], r: &mut Runner) -> Outcome
-    ensures { λ x. ⌜ (toldOutcome x ≡ stepAnswer (now (s .entry)) (now (r .entry))) × (now (r .exit) ≡ onward (now (s .entry)) (now (r .entry))) ⌝ }
+    ensures { λ x. ⌜ (toldOutcome x ≡ bare (stepped (now (s .entry)) (now (r .entry)))) × (now (r .exit) ≡ onward (now (s .entry)) (now (r .entry))) ⌝ }
 {
     let leg = r.leg;
     let offset = r.offset;
-    let n = step_kept(s, leg, offset);
+    let n = onward(s, leg, offset);
     r.leg = n.leg;
     r.offset = n.offset;
     n.outcome
 }
 
-// The step on a record of its own: what a caller that keeps leg and offset as numbers uses, and what the gate's program runs the lent step through.
-pub fn step_record(s: &[u8], leg: u64, offset: u64) -> Stepped
-    ensures { λ r. ⌜ (toldOutcome (r .outcome) ≡ stepAnswer (now (s .entry)) (runner leg offset)) × (runner (r .leg) (r .offset) ≡ onward (now (s .entry)) (runner leg offset)) ⌝ }
+// The lent step on a record of its own: for callers that keep two numbers, and for the program that runs it (crates/runner_runs).
+pub fn step_record(s: &[u8], leg: u64, offset: u64) -> StepOutcome
+    ensures { λ r. ⌜ (toldOutcome (r .outcome) ≡ bare (stepped (now (s .entry)) (runner leg offset))) × (runner (r .leg) (r .offset) ≡ onward (now (s .entry)) (runner leg offset)) ⌝ }
 {
     let mut r = Runner { leg, offset };
     let outcome = step(s, &mut r);
-    Stepped {
+    StepOutcome {
         leg: r.leg,
         offset: r.offset,
         outcome,

@@ -1,4 +1,4 @@
-// The leg and offset that a tick names, and the runner from a tick (01, Places).
+// The leg and offset of a tick (P3, P4), and the runner from a tick (A6).
 ghost use mathlib.Core.Path.{_≡_};
 ghost use mathlib.Core.Bool.{_&&_};
 ghost use Prim.Native.Nat.{_+_, _-_, _*_, _≤_};
@@ -12,7 +12,7 @@ use ends::EndKind;
 use sheet::Reading;
 use sheet::Refusal;
 
-// An open course has ends: kinds 0 and 1.
+// An open course has ends, free or held.
 pub fn is_open(kind: EndKind) -> bool
     ensures { λ r. ⌜ r ≡ isOpen kind ⌝ }
 {
@@ -23,14 +23,14 @@ pub fn is_open(kind: EndKind) -> bool
     }
 }
 
-// 10: "open course, tick above its last".
+// N10: an open course has no tick over P.
 pub fn is_past(kind: EndKind, ticks: u64, tick: u64) -> bool
     ensures { λ r. ⌜ r ≡ (isOpen kind && ltb ticks tick) ⌝ }
 {
     is_open(kind) & (ticks < tick)
 }
 
-// 01: "A closed course answers any unsigned 64-bit tick, taken modulo P."
+// P4: ticks of a closed course go round.
 fn reduced(kind: EndKind, ticks: u64, tick: u64) -> u64
     requires { ⌜ 1 ≤ ticks ⌝ }
     ensures { λ r. ⌜ r ≡ reduced kind ticks tick ⌝ }
@@ -42,8 +42,7 @@ fn reduced(kind: EndKind, ticks: u64, tick: u64) -> u64
     }
 }
 
-// One walk along the legs that carries the ticks left over along. 01: "A tick on an inner waypoint belongs to the leg that starts there; the last tick of an
-// open course is the last leg at full offset."
+// P3: one walk along the legs that carries the ticks that are left; whatever is left on the last leg stays there.
 fn leg_at(s: &[u8], legs: usize, tick: u64) -> Runner
     requires { ⌜ (1 ≤ legs) × (8 + 2 * legs ≤ length (now s)) ⌝ }
     ensures { λ r. ⌜ r ≡ walk (leg (now (s .entry))) (legs - 1) 0 tick ⌝ }
@@ -67,7 +66,7 @@ fn leg_at(s: &[u8], legs: usize, tick: u64) -> Runner
     }
 }
 
-// The leg and offset that a tick names.
+// The leg and offset of a tick, reduced first.
 pub fn spot_at(s: &[u8], kind: EndKind, legs: usize, ticks: u64, tick: u64) -> Runner
     requires { ⌜ IsRead (now s) kind legs ⌝ }
     requires { ⌜ ticks ≡ sumOfLegs (now s) ⌝ }
@@ -76,7 +75,7 @@ pub fn spot_at(s: &[u8], kind: EndKind, legs: usize, ticks: u64, tick: u64) -> R
     leg_at(s, legs, reduced(kind, ticks, tick))
 }
 
-// The runner that stands at a tick. Tests 1 to 8 and 10.
+// The runner from a tick. Tests 1 to 8 and 10 (A6).
 pub fn runner_at_tick(s: &[u8], tick: u64) -> RunnerAnswer
     ensures { λ r. ⌜ toldRunner r ≡ runnerAtTick (now (s .entry)) tick ⌝ }
 {

@@ -3,7 +3,7 @@
 use answers::Outcome;
 use libc::STDOUT_FILENO;
 use runner::RunnerAnswer;
-use runner::Stepped;
+use runner::StepOutcome;
 use runner::runner_at_tick;
 use runner::step_record;
 use sheet::Refusal;
@@ -55,7 +55,7 @@ fn show_ticks(name: &[u8], s: &[u8], count: u64) {
 }
 
 // A step of a runner that may be anywhere.
-fn show_step(name: &[u8], s: &[u8], leg: u64, offset: u64) -> Stepped {
+fn show_step(name: &[u8], s: &[u8], leg: u64, offset: u64) -> StepOutcome {
     print(name);
     print(b" from ");
     io::print_decimal(STDOUT_FILENO, leg);

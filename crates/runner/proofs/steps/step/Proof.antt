@@ -42,28 +42,28 @@ use denote.Triple.Clauses.{ensured, lasts}
 use denote.Triple.Table.{entered, cited}
 use denote.Triple.Walked.{says, Stays, stay-ref, stay-none-slice, walkOf, AllGo, goes-none-slice, goes-ref, Walks, ends-at, walked, walk-meets}
 use denote.Exit.{yes}
-use Rattle.answers.specs.Answers.{toldOutcome}
+use Rattle.answers.specs.Answers.{toldOutcome, bare}
 use Rattle.answers.specs.declared.Outcome.the-variants.{Refused}
 use Rattle.sheet.specs.Bytes.{be16, be32, signed32, anyBelow, sumBelow}
 use Rattle.sheet.specs.Reading.{readBy}
 use Rattle.sheet.specs.declared.Refusal.the-variants.{Landed}
 use Rattle.runner.specs.Ticks.{runner}
-use Rattle.runner.specs.Steps.{adrift, moved, stepped, stepAnswer, onward}
+use Rattle.runner.specs.Steps.{adrift, moved, stepped, onward}
 use Rattle.runner.specs.declared.Runner.{Runner}
 use Rattle.runner.proofs.Kept.{four}
 use Rattle.runner.proofs.Runner as T
 use Rattle.runner.proofs.Runner.Laws as T′
-use Rattle.runner.proofs.steps.step_kept as next
-use Rattle.runner.proofs.steps.step_kept.Symbol as next-def
-use Rattle.runner.proofs.steps.step_kept.Symbol.{name as #runner·step-kept}
-use Rattle.runner.proofs.steps.step_kept.Met as next-thm
+use Rattle.runner.proofs.steps.onward as next
+use Rattle.runner.proofs.steps.onward.Symbol as next-def
+use Rattle.runner.proofs.steps.onward.Symbol.{name as #runner·onward}
+use Rattle.runner.proofs.steps.onward.Met as next-thm
 use Rattle.runner.proofs.steps.step.Key.{name as #runner·step}
 use Rattle.runner.proofs.steps.step as f
 use Rattle.runner.proofs.steps.step.Statement as stated
 use Rattle.runner.proofs.steps.step.Code as code
-use Rattle.runner.specs.declared.steps.Stepped.{Stepped}
-use Rattle.runner.proofs.steps.Stepped as S
-use Rattle.runner.proofs.steps.Stepped.Laws as S′
+use Rattle.runner.specs.declared.steps.StepOutcome.{StepOutcome}
+use Rattle.runner.proofs.steps.StepOutcome as S
+use Rattle.runner.proofs.steps.StepOutcome.Laws as S′
 use Rattle.answers.proofs.Outcome as O
 use Rattle.answers.proofs.Outcome.Laws as O′
 
@@ -76,12 +76,12 @@ module _ {M : Type 1} (𝓤 : URA M) (H : Heap 𝓤) (A : Atoms 𝓤) (at-mem : 
   landed = (record { ptr = (0, 0); name = 0; now = four }, (record { ptr = (0, 0); name = 0; now = runner 0 4 }, tt))
 
   landed-tried : ent 𝓤 (emp 𝓤) (f.clauses 𝓤 H A at-mem run ([], ([], tt)) landed .ensures tt (Refused Landed) landed)
-  unfolding be16 be32 signed32 anyBelow sumBelow readBy adrift moved stepped stepAnswer onward
+  unfolding be16 be32 signed32 anyBelow sumBelow readBy adrift moved stepped onward
   landed-tried = factI 𝓤 _ (emp 𝓤) (refl, refl)
 
   -- the contract that the proof cites
-  abbrev StepKept : Contract 𝓤
-  StepKept = tripleOf 𝓤 H A next.signature (next.spec 𝓤 H A at-mem run)
+  abbrev Covered : Contract 𝓤
+  Covered = tripleOf 𝓤 H A next.signature (next.spec 𝓤 H A at-mem run)
 
 module _ {M : Type 1} (𝓤 : URA M) (H : Heap 𝓤) (A : Atoms 𝓤) (W : Given 𝓤 H A) (at-mem : Memory → SProp 𝓤) (run : Routine → Fun 𝓤) (κ κ′ : Lft) (bounds : AllOutlive 2 (f.signature .outlives) (κ, (κ′, tt))) (q q′ : Share) (s : RefT (List ℕ)) (b o : ℕ) (γ : GName) (h : Runner) where
   abbrev Arg : Type 0
@@ -96,14 +96,14 @@ module _ {M : Type 1} (𝓤 : URA M) (H : Heap 𝓤) (A : Atoms 𝓤) (W : Given
   abbrev vals : List Val × (List Val × Unit {0})
   vals = (v ∷ [], (vptr b o ∷ [], tt))
 
-  abbrev h′ : Stepped → Runner
+  abbrev h′ : StepOutcome → Runner
   h′ r = runner (r .leg) (r .offset)
 
   -- what the covered step says of the record and of its outcome
-  abbrev Kept : Stepped → Type 0
-  Kept r = (toldOutcome (r .outcome) ≡ stepAnswer (s .now) h) × (h′ r ≡ onward (s .now) h)
+  abbrev Kept : StepOutcome → Type 0
+  Kept r = (toldOutcome (r .outcome) ≡ bare (stepped (s .now) h)) × (h′ r ≡ onward (s .now) h)
 
-  abbrev mach : Stepped → Val
+  abbrev mach : StepOutcome → Val
   mach r = vstruct (vcons (vint w64 (r .leg)) (vcons (vint w64 (r .offset)) vnil))
 
   abbrev Own : Fml
@@ -115,25 +115,25 @@ module _ {M : Type 1} (𝓤 : URA M) (H : Heap 𝓤) (A : Atoms 𝓤) (W : Given
   u-fits : Is T.the-row h (LL.vals T.the-type T′.the-laws h) → h .offset < 2 ^ 64
   u-fits was = LL.owed T.the-type T′.the-laws h (LL.vals T.the-type T′.the-laws h) was .1 .0 .1
 
-  made : (r : Stepped) → r .leg < 2 ^ 64 → r .offset < 2 ^ 64 → Is T.the-row (h′ r) (mach r ∷ [])
+  made : (r : StepOutcome) → r .leg < 2 ^ 64 → r .offset < 2 ^ 64 → Is T.the-row (h′ r) (mach r ∷ [])
   made r fl fo = LL.owes T.the-type T′.the-laws (h′ r) ((refl, fl), ((refl, fo), tt))
 
   abbrev Post : Val → SProp 𝓤
   Post = walkOf 𝓤 H A f.ended stayed (f.clauses 𝓤 H A at-mem run) .post (((κ, (κ′, tt)), (q, (q′, tt)), bounds, a, vals), tt)
 
-  abbrev to : StepKept 𝓤 H A at-mem run .Ghost
+  abbrev to : Covered 𝓤 H A at-mem run .Ghost
   to = (((κ, tt), (q, tt), tt, (s, (h .leg, (h .offset, tt))), (v ∷ [], (vint w64 (h .leg) ∷ [], (vint w64 (h .offset) ∷ [], tt)))), tt)
 
-  asked : h .leg < 2 ^ 64 → h .offset < 2 ^ 64 → ent 𝓤 (sep 𝓤 (A .lft κ q) (sem 𝓤 H A Own)) (StepKept 𝓤 H A at-mem run .pre to)
+  asked : h .leg < 2 ^ 64 → h .offset < 2 ^ 64 → ent 𝓤 (sep 𝓤 (A .lft κ q) (sem 𝓤 H A Own)) (Covered 𝓤 H A at-mem run .pre to)
   asked fl fu =
       qed W (‵ (flft κ q) ∷ ‵ Own ∷ []) ∵ nothing ! $ move ! (1 ∷ 0 ∷ []) $ join ! $ move ! (1 ∷ []) $
       nothing ! $ owned ! u64 (Is u64) (uint-makes 𝓤 H A W w64) (h .offset) _ (refl, fu) $ fjoin ! $ owned ! u64 (Is u64) (uint-makes 𝓤 H A W w64) (h .leg) _ (refl, fl) $ fjoin ! $
       move ! (1 ∷ 0 ∷ []) $ fjoin ! $ move ! (1 ∷ 0 ∷ []) $ join ! $ frame ! $ done !
 
-  said : (r : Stepped) → ent 𝓤 (ensured 𝓤 H A next.ended (next.clauses 𝓤 H A at-mem run) (κ, tt) (s, (h .leg, (h .offset, tt))) tt r) (fact 𝓤 (Kept r))
+  said : (r : StepOutcome) → ent 𝓤 (ensured 𝓤 H A next.ended (next.clauses 𝓤 H A at-mem run) (κ, tt) (s, (h .leg, (h .offset, tt))) tt r) (fact 𝓤 (Kept r))
   said r = exE 𝓤 _ (λ ws. snd∗ 𝓤 (sem 𝓤 H A (lasts next.ended (κ, tt) (s, (h .leg, (h .offset, tt))) ws)) (fact 𝓤 (Kept r)))
 
-  exits : (r : Stepped) (z : Val) → Kept r → Is O.the-row (r .outcome) (z ∷ [])
+  exits : (r : StepOutcome) (z : Val) → Kept r → Is O.the-row (r .outcome) (z ∷ [])
       → ent 𝓤 (⋆ 𝓤 H A (‵ (fobs γ (T.the-row .coded .code (h′ r))) ∷ ‵ (fbor κ′ (Body (mem T.the-row) b o γ)) ∷ ‵ (flft κ′ q′) ∷ (‵ (flft κ q) ⊛ ‵ ftrue) ∷ ‵ Own ∷ [])) (Post z)
   exits r z e is =
       qed W (‵ (fobs γ (T.the-row .coded .code (h′ r))) ∷ ‵ (fbor κ′ (Body (mem T.the-row) b o γ)) ∷ ‵ (flft κ′ q′) ∷ (‵ (flft κ q) ⊛ ‵ ftrue) ∷ ‵ Own ∷ []) ∵
@@ -142,7 +142,7 @@ module _ {M : Type 1} (𝓤 : URA M) (H : Heap 𝓤) (A : Atoms 𝓤) (W : Given
       feqI ! (List Val) (vptr b o ∷ []) (vptr b o ∷ []) refl $ fjoin3 ! $ nothing ! $ move ! (1 ∷ 0 ∷ []) $ fjoin ! $ move ! (1 ∷ 0 ∷ []) $ fjoin ! $
       owned ! O.the-row (Is O.the-row) ((EL.makes O.the-type O′.the-plain) 𝓤 H A) (r .outcome) _ is $ move ! (1 ∷ 0 ∷ []) $ done !
 
-  module _ (C : Calls 𝓤 H) (Λ : Loops 𝓤 H) (fm : FmC 𝓤 H (W .laws) C) (known : Triple 𝓤 (C #runner·step-kept) (StepKept 𝓤 H A at-mem run)) where
+  module _ (C : Calls 𝓤 H) (Λ : Loops 𝓤 H) (fm : FmC 𝓤 H (W .laws) C) (known : Triple 𝓤 (C #runner·onward) (Covered 𝓤 H A at-mem run)) where
     walk : Is (ShrSlice (named 0) κ u8) s (v ∷ []) → ent 𝓤 (onEntry 𝓤 H A f.signature (κ, (κ′, tt)) (q, (q′, tt)) a vals) (WpFn 𝓤 H C Λ code.function (v ∷ vptr b o ∷ []) Post)
     walk p =
         qed W ((‵ (flft κ q) ⊛ ‵ (flft κ′ q′) ⊛ ‵ ftrue) ∷ ‵ (owns (ShrSlice (named 0) κ u8 ∷ MutRef (named 1) κ′ T.the-row ∷ []) a vals) ∷ []) ∵ enter ! C Λ code.function (v ∷ vptr b o ∷ []) _ $
@@ -156,9 +156,9 @@ module _ {M : Type 1} (𝓤 : URA M) (H : Heap 𝓤) (A : Atoms 𝓤) (W : Given
         assigns ! (of-opd ! (load ! (from ! (hop ! (look ! 15 refl) (fld ! refl (stop !)))) (look-in ! 0 (sub ! 0 refl (whole !))))) (from ! (stop !)) (init ! 13 refl (tt, record { fits = leg-fits was })) $
         assigns ! (of-opd ! (load ! (from ! (hop ! (look ! 15 refl) (fld ! refl (stop !)))) (look-in ! 0 (sub ! 1 refl (whole !))))) (from ! (stop !)) (init ! 11 refl (tt, record { fits = u-fits was })) $
         move ! (8 ∷ []) $ use1 W (‵ Own ⊛ ‵ Own) (shr-slice-copy 𝓤 H A W (named 0) κ u8 .twice s (v ∷ [])) $ split ! $
-        move ! (8 ∷ 0 ∷ []) $ use2 W (raw (StepKept 𝓤 H A at-mem run .pre to)) (asked (leg-fits was) (u-fits was)) $
-        calls-at ! fm (StepKept 𝓤 H A at-mem run) known to (and-then ! (load ! (from ! (stop !)) (look ! 17 refl)) (and-then ! (load ! (from ! (stop !)) (look ! 13 refl)) (and-then ! (load ! (from ! (stop !)) (look ! 11 refl)) (no-more !)))) (λ w.
-        use1 W (later (some (λ (r : Stepped). ((‵ (flft κ q) ⊛ ‵ ftrue) ⊛ ‵ (S.the-row .own r (w ∷ []))) ⊛ raw (ensured 𝓤 H A next.ended (next.clauses 𝓤 H A at-mem run) (κ, tt) (s, (h .leg, (h .offset, tt))) tt r)))) (id⊢ 𝓤 _) $ await ! tt $ pick ! (λ r.
+        move ! (8 ∷ 0 ∷ []) $ use2 W (raw (Covered 𝓤 H A at-mem run .pre to)) (asked (leg-fits was) (u-fits was)) $
+        calls-at ! fm (Covered 𝓤 H A at-mem run) known to (and-then ! (load ! (from ! (stop !)) (look ! 17 refl)) (and-then ! (load ! (from ! (stop !)) (look ! 13 refl)) (and-then ! (load ! (from ! (stop !)) (look ! 11 refl)) (no-more !)))) (λ w.
+        use1 W (later (some (λ (r : StepOutcome). ((‵ (flft κ q) ⊛ ‵ ftrue) ⊛ ‵ (S.the-row .own r (w ∷ []))) ⊛ raw (ensured 𝓤 H A next.ended (next.clauses 𝓤 H A at-mem run) (κ, tt) (s, (h .leg, (h .offset, tt))) tt r)))) (id⊢ 𝓤 _) $ await ! tt $ pick ! (λ r.
         split ! $ move ! (1 ∷ []) $ use1 W (raw (fact 𝓤 (Kept r))) (said r) $ heard ! (Kept r) (λ e. split ! $ move ! (1 ∷ []) $
         peeks ! S.the-row (Is S.the-row) (shows 𝓤 H A S.the-row) r (w ∷ []) (λ is.
         land ! (from ! (stop !)) (init ! 10 refl (LL.lawful S.the-type S′.the-laws 𝓤 H A W .typed r _ is .0)) $
@@ -174,14 +174,14 @@ module _ {M : Type 1} (𝓤 : URA M) (H : Heap 𝓤) (A : Atoms 𝓤) (W : Given
         keep ! (0 ∷ 1 ∷ 2 ∷ 3 ∷ 4 ∷ []) $ by ! (exits r _ e (LL.owed S.the-type S′.the-laws r _ is .1 .1 .0))))))))))))))
 
 module _ {M : Type 1} (𝓤 : URA M) (H : Heap 𝓤) (A : Atoms 𝓤) (W : Given 𝓤 H A) (at-mem : Memory → SProp 𝓤) (run : Routine → Fun 𝓤) where
-  step-walks : (C : Calls 𝓤 H) (Λ : Loops 𝓤 H) → FmC 𝓤 H (W .laws) C → Triple 𝓤 (C #runner·step-kept) (StepKept 𝓤 H A at-mem run) → Walks 𝓤 H A f.ended stayed (WpFn 𝓤 H C Λ code.function) (f.clauses 𝓤 H A at-mem run)
+  step-walks : (C : Calls 𝓤 H) (Λ : Loops 𝓤 H) → FmC 𝓤 H (W .laws) C → Triple 𝓤 (C #runner·onward) (Covered 𝓤 H A at-mem run) → Walks 𝓤 H A f.ended stayed (WpFn 𝓤 H C Λ code.function) (f.clauses 𝓤 H A at-mem run)
   step-walks C Λ fm known = walked 𝓤 H A f.ended stayed (f.clauses 𝓤 H A at-mem run) (WpFn 𝓤 H C Λ code.function) (λ κs. (slice-vals, (ptr-vals, tt))) (λ κs. (shr-slice-tells (named 0) (κs .0) u8, (mut-tells (named 1) (κs .1 .0) T.the-row, tt)))
       (λ κs qs bounds a _ are. via 𝓤 _ (fst∗ 𝓤 _ (emp 𝓤)) (walk 𝓤 H A W at-mem run (κs .0) (κs .1 .0) bounds (qs .0) (qs .1 .0) (a .0) (a .1 .0 .ptr .0) (a .1 .0 .ptr .1) (a .1 .0 .name) (a .1 .0 .now) C Λ fm known (are .0)))
 
   goes : AllGo 𝓤 H A W 2 (f.signature .params) (f.ended .kept) stayed
   goes = (goes-none-slice 𝓤 H A W 2 (0 ∷ []) tt (plain (λ _. u8)) yes, (goes-ref 𝓤 H A W 2 1 tt (plain (λ _. T.the-row)), tt))
 
-step-meets : {M : Type 1} (𝓤 : URA M) (H : Heap 𝓤) (A : Atoms 𝓤) → Given 𝓤 H A → (at-mem : Memory → SProp 𝓤) (run : Routine → Fun 𝓤) (𝓣 : Tables 𝓤 H) → Triple 𝓤 (𝓣 .C #runner·step-kept) (StepKept 𝓤 H A at-mem run)
+step-meets : {M : Type 1} (𝓤 : URA M) (H : Heap 𝓤) (A : Atoms 𝓤) → Given 𝓤 H A → (at-mem : Memory → SProp 𝓤) (run : Routine → Fun 𝓤) (𝓣 : Tables 𝓤 H) → Triple 𝓤 (𝓣 .C #runner·onward) (Covered 𝓤 H A at-mem run)
     → Meets 𝓤 H A f.signature (WpFn 𝓤 H (𝓣 .C) (𝓣 .Λ) code.function) (f.spec 𝓤 H A at-mem run)
 step-meets 𝓤 H A W at-mem run 𝓣 known = walk-meets 𝓤 H A f.ended stayed W (goes 𝓤 H A W at-mem run) (f.clauses 𝓤 H A at-mem run) (WpFn 𝓤 H (𝓣 .C) (𝓣 .Λ) code.function) (WpFn-mono 𝓤 H (W .laws) 𝓣 code.function) (step-walks 𝓤 H A W at-mem run (𝓣 .C) (𝓣 .Λ) (fmOf 𝓤 H (W .laws) 𝓣) known)
 
@@ -191,4 +191,4 @@ step-spec 𝓤 H 𝓜 𝓖 𝓡 =
     entered 𝓤 H (tripleOf 𝓤 H (𝓖 .A) f.signature (f.spec 𝓤 H (𝓖 .A) (𝓜 .mem) (𝓡 .run)))
     (tables 𝓤 H 𝓜 𝓡 code.env .C) (tables 𝓤 H 𝓜 𝓡 code.env .Λ) #runner·step code.function (code.unfolded 𝓤 H 𝓜 𝓡)
     (step-meets 𝓤 H (𝓖 .A) (givenOf 𝓤 H 𝓜 𝓖) (𝓜 .mem) (𝓡 .run) (tablesOf 𝓤 H 𝓜 (tables 𝓤 H 𝓜 𝓡 code.env))
-    (cited 𝓤 H (StepKept 𝓤 H (𝓖 .A) (𝓜 .mem) (𝓡 .run)) 𝓜 𝓡 code.env #runner·step-kept next-def.routine code.calls-runner·steps·step-kept (next-thm.met 𝓤 H 𝓜 𝓖 𝓡)))
+    (cited 𝓤 H (Covered 𝓤 H (𝓖 .A) (𝓜 .mem) (𝓡 .run)) 𝓜 𝓡 code.env #runner·onward next-def.routine code.calls-runner·steps·onward (next-thm.met 𝓤 H 𝓜 𝓖 𝓡)))

@@ -43,18 +43,18 @@ use denote.Triple.Table.{entered, cited}
 use denote.Triple.Walked.{says, Stays, stay-none, stay-none-slice, walkOf, AllGo, goes-none, goes-none-slice, Walks, ends-at, walked, walk-meets}
 use denote.Exit.{yes}
 use borrow.Table.OneValue.{part-in, part-out}
-use Rattle.answers.specs.Answers.{toldOutcome}
+use Rattle.answers.specs.Answers.{toldOutcome, bare}
 use Rattle.answers.specs.declared.Outcome.{Outcome}
 use Rattle.answers.proofs.Outcome as O
 use Rattle.answers.proofs.Outcome.Laws as O′
 use Rattle.runner.specs.Ticks.{runner}
-use Rattle.runner.specs.Steps.{stepAnswer, onward}
+use Rattle.runner.specs.Steps.{stepped, onward}
 use Rattle.runner.specs.declared.Runner.{Runner}
-use Rattle.runner.specs.declared.steps.Stepped.{Stepped}
+use Rattle.runner.specs.declared.steps.StepOutcome.{StepOutcome}
 use Rattle.runner.proofs.Runner as T
 use Rattle.runner.proofs.Runner.Laws as T′
-use Rattle.runner.proofs.steps.Stepped as S
-use Rattle.runner.proofs.steps.Stepped.Laws as S′
+use Rattle.runner.proofs.steps.StepOutcome as S
+use Rattle.runner.proofs.steps.StepOutcome.Laws as S′
 use Rattle.runner.proofs.steps.step as step
 use Rattle.runner.proofs.steps.step.Symbol as step-def
 use Rattle.runner.proofs.steps.step.Symbol.{name as #runner·step}
@@ -90,9 +90,9 @@ module _ {M : Type 1} (𝓤 : URA M) (H : Heap 𝓤) (A : Atoms 𝓤) (W : Given
 
   -- what `step` says of its outcome and of the record's last value
   abbrev Told : Outcome → Runner → Type 0
-  Told x h′ = (toldOutcome x ≡ stepAnswer (s .now) h) × (h′ ≡ onward (s .now) h)
+  Told x h′ = (toldOutcome x ≡ bare (stepped (s .now) h)) × (h′ ≡ onward (s .now) h)
 
-  abbrev result : Outcome → Runner → Stepped
+  abbrev result : Outcome → Runner → StepOutcome
   result x h′ = record { leg = h′ .leg; offset = h′ .offset; outcome = x }
 
   abbrev Own : Fml

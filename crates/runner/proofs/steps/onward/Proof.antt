@@ -1,17 +1,17 @@
--- `runner::steps::step_kept` meets its contract: what `step_at` tells decides outcome and record together.
+-- `runner::steps::onward` meets its contract: what `stepped` tells decides outcome and record together.
 use mathlib.Core.Path.{_≡_, refl, sym, ap, _∙_}
 use borrow.Author.Needs.{needs}
 use Rattle.integers.proofs.Tried.{Tried, tried}
 use Rattle.runner.specs.Ticks.{runner, toldRunner}
 use Rattle.runner.specs.Steps.{onward}
 use Rattle.runner.proofs.Kept.{kept-moved, kept-refused}
-use Rattle.runner.proofs.steps.step_kept.Statement.{statement}
-use Rattle.runner.proofs.steps.step_kept.Tie as tie
-use Rattle.runner.proofs.steps.step_kept.Reads as reads
-use Rattle.runner.proofs.steps.step_kept.Lts as lts
+use Rattle.runner.proofs.steps.onward.Statement.{statement}
+use Rattle.runner.proofs.steps.onward.Tie as tie
+use Rattle.runner.proofs.steps.onward.Reads as reads
+use Rattle.runner.proofs.steps.onward.Lts as lts
 
-step-at-requires : tie.Need-step-at-requires
-step-at-requires c κs = search needs
+stepped-requires : tie.Need-stepped-requires
+stepped-requires c κs = search needs
 
 enum-known-next : tie.Need-enum-known-next
 enum-known-next c = search needs
@@ -28,13 +28,13 @@ returns : tie.Need-returns
 returns c =
     let a = c .before .before .before .before .before .args in
     kept-moved (a .s .now) (runner (a .leg) (a .offset)) (c .before .next .given .0 .0)
-    (ap toldRunner (sym (c .before .next .given .1)) ∙ c .before .before .before .step-at .ensures)
+    (ap toldRunner (sym (c .before .next .given .1)) ∙ c .before .before .before .stepped .ensures)
 
 returns-2 : tie.Need-returns-2
 returns-2 c =
     let a = c .before .before .before .before .before .args in
     kept-refused (a .s .now) (runner (a .leg) (a .offset)) (c .before .r .given .0 .0)
-    (ap toldRunner (sym (c .before .r .given .1)) ∙ c .before .before .before .step-at .ensures)
+    (ap toldRunner (sym (c .before .r .given .1)) ∙ c .before .before .before .stepped .ensures)
 
-pub step-kept-spec : {M : Type 1} → statement M
-step-kept-spec = tie.close (tie.spec step-at-requires enum-known-next enum-known-r returns returns-2)
+pub onward-spec : {M : Type 1} → statement M
+onward-spec = tie.close (tie.spec stepped-requires enum-known-next enum-known-r returns returns-2)

@@ -1,4 +1,4 @@
--- `runner::steps::step_at` meets its contract: the reader's refusal is passed on; of an accepted sheet 11 is asked, then 13, and the rest is `moved`.
+-- `runner::steps::stepped` meets its contract: the reader's refusal is passed on; of an accepted sheet 11 is asked, then 13, and the rest is `moved`.
 use mathlib.Core.Path.{_≡_, sym, ap, _∙_}
 use mathlib.Core.Bool.{false}
 use mathlib.Core.List.{List}
@@ -10,8 +10,8 @@ use Rattle.runner.specs.declared.Runner.{Runner}
 use Rattle.runner.proofs.Entry.{Course, course, passed-on}
 use Rattle.runner.proofs.Standing.{standing, leg-below}
 use borrow.Author.Needs.{needs}
-use Rattle.runner.proofs.steps.step_at.Statement.{statement}
-use Rattle.runner.proofs.steps.step_at.Tie as tie
+use Rattle.runner.proofs.steps.stepped.Statement.{statement}
+use Rattle.runner.proofs.steps.stepped.Tie as tie
 
 module _ (c : tie.After-known-told) where
   abbrev S : List ℕ
@@ -86,8 +86,8 @@ returns-4 c =
     ap found (c .moved .ensures)
     ∙ simp (told-course (f .before .before .before) .read, fits f, sym (b .before .is-landed .ensures) ∙ b .if2 .left)
 
-pub step-at-spec : {M : Type 1} → statement M
-step-at-spec =
+pub stepped-spec : {M : Type 1} → statement M
+stepped-spec =
     tie.close
     (tie.spec
     read-requires
