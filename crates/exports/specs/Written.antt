@@ -1,4 +1,4 @@
--- What an exported function leaves in the slice that is lent for its results: numbers and slices only, no struct crosses the boundary.
+-- What an exported function leaves in the slice that is lent for its results, and the step of a runner that is lent as a slice. For exports alone.
 use mathlib.Core.Bool.{cond}
 use mathlib.Core.List.{List, _++_, map}
 use Prim.Native.Nat.{ℕ}
@@ -23,6 +23,10 @@ written t out = cond (eqb (t .number) 0) (put (t .values) out) out
 unfoldable pub writtenUnsigned : Told → List ℕ → List ℕ
 writtenUnsigned t out = cond (eqb (t .number) 0) (put (map natAbs (t .values)) out) out
 
--- a lent runner is two numbers, leg and offset; a shorter slice holds no runner, which is adrift
+-- A1, A8: without a runner the step answers the sheet's refusal, and otherwise adrift
+abbrev pub noRunner : List ℕ → Told
+noRunner s = passOn (readSheet s) (refused Adrift)
+
+-- a lent runner is two numbers, leg and offset; a shorter slice holds none
 unfoldable pub steppedSlice : List ℕ → List ℕ → Told
-steppedSlice s r = cond (leb 2 (length r)) (stepped s (runner (getD r 0 0) (getD r 1 0))) (passOn (readSheet s) (refused Adrift))
+steppedSlice s r = cond (leb 2 (length r)) (stepped s (runner (getD r 0 0) (getD r 1 0))) (noRunner s)

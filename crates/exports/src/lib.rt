@@ -1,11 +1,12 @@
-// The C boundary (include/station.h): the station's calls on numbers and slices. A slice is a pointer, then a length. Each function answers 0 or 01's number,
-// and writes its results only when it answers 0 and the lent slice has room for them.
+// The C boundary (include/station.h): the station's calls on numbers and slices. A slice is a pointer, then a length. Each function answers 0 or a number
+// of group N, and writes its results only when it answers 0 and the lent slice has room for them.
 use answers::Outcome;
 use ends::EndKind;
 use place::Placed;
 use runner::Runner;
 use runner::RunnerAnswer;
 use sheet::Reading;
+use sheet::Refusal;
 use sheet::number_of;
 ghost use mathlib.Core.Path.{_≡_};
 ghost use mathlib.Core.List.{[], _∷_};
@@ -16,7 +17,7 @@ ghost use Rattle.sheet.specs.Reading.{readSheet};
 ghost use Rattle.layout.specs.Layout.{layOut, laidOut};
 ghost use Rattle.runner.specs.Ticks.{runner, toldRunner, runnerAtTick};
 ghost use Rattle.place.specs.Places.{toldPlaced, placeAtTick, placeOfRunner};
-ghost use Rattle.exports.specs.Written.{put, written, writtenUnsigned, steppedSlice};
+ghost use Rattle.exports.specs.Written.{put, written, writtenUnsigned, noRunner, steppedSlice};
 
 fn kind_number(kind: EndKind) -> u64
     ensures { λ r. ⌜ r ≡ kindNumber kind ⌝ }
@@ -158,6 +159,20 @@ pub extern "C" fn station_runner_at_tick(sheet: &[u8], tick: u64, out: &mut [u64
     tell_runner(runner::runner_at_tick(sheet, tick), out)
 }
 
+// The step's answer where no runner is lent: the sheet's refusal, and otherwise adrift.
+fn no_runner(sheet: &[u8]) -> RunnerAnswer
+    ensures { λ r. ⌜ toldRunner r ≡ noRunner (now (sheet .entry)) ⌝ }
+{
+    match sheet::read(sheet) {
+        Reading::Course {
+            kind: _,
+            points: _,
+            ticks: _,
+        } => RunnerAnswer::Refused(Refusal::Adrift),
+        Reading::Refused(r) => RunnerAnswer::Refused(r),
+    }
+}
+
 // lent = leg, offset, moved on in place
 #[no_mangle]
 pub extern "C" fn station_step(sheet: &[u8], lent: &mut [u64]) -> u64
@@ -165,14 +180,7 @@ pub extern "C" fn station_step(sheet: &[u8], lent: &mut [u64]) -> u64
     ensures lent { λ r. ⌜ now (lent .exit) ≡ writtenUnsigned (steppedSlice (now (sheet .entry)) (now (lent .entry))) (now (lent .entry)) ⌝ }
 {
     if lent.len() < 2 {
-        return match sheet::read(sheet) {
-            Reading::Course {
-                kind: _,
-                points: _,
-                ticks: _,
-            } => 11,
-            Reading::Refused(r) => number_of(r),
-        };
+        return tell_runner(no_runner(sheet), lent);
     }
-    tell_runner(runner::step_at(sheet, lent[0], lent[1]), lent)
+    tell_runner(runner::stepped(sheet, lent[0], lent[1]), lent)
 }

@@ -21,7 +21,7 @@ use Rattle.runner.specs.Steps.{adrift, landed, moved, stepped, onward}
 use Rattle.runner.specs.declared.Runner.{Runner}
 
 -- free, one leg of 4, both waypoints at 0
-abbrev pub four : List ℕ
+abbrev four : List ℕ
 four = 0 ∷ 0 ∷ 0 ∷ 34 ∷ 1 ∷ 0 ∷ 0 ∷ 2 ∷ 0 ∷ 4 ∷ replicate 24 0
 
 -- tried: from its start to tick 1

@@ -61,7 +61,7 @@ fn moved(s: &[u8], kind: EndKind, legs: usize, leg: u64, offset: u64) -> Runner
     }
 }
 
-// The step by value, on leg and offset. Tests 1 to 8, 11 and 13 (A7).
+// The step by value, on leg and offset (A7). Tests 1 to 8, 11 and 13.
 pub fn stepped(s: &[u8], leg: u64, offset: u64) -> RunnerAnswer
     ensures { λ r. ⌜ toldRunner r ≡ stepped (now (s .entry)) (runner leg offset) ⌝ }
 {

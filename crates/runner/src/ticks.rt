@@ -75,7 +75,7 @@ pub fn spot_at(s: &[u8], kind: EndKind, legs: usize, ticks: u64, tick: u64) -> R
     leg_at(s, legs, reduced(kind, ticks, tick))
 }
 
-// The runner from a tick. Tests 1 to 8 and 10 (A6).
+// The runner from a tick (A6). Tests 1 to 8 and 10.
 pub fn runner_at_tick(s: &[u8], tick: u64) -> RunnerAnswer
     ensures { λ r. ⌜ toldRunner r ≡ runnerAtTick (now (s .entry)) tick ⌝ }
 {

@@ -100,6 +100,10 @@ returns-3 c = let k = c .before .before in next-offset (k .before .before .befor
 returns-4 : tie.Need-returns-4
 returns-4 c = let k = c .before .before in next-offset (k .before .before .before .before) ∙ past-last k _ (c .enum-told2 .given .1)
 
+-- tried at the last tick of a closed course, leg 2 and offset 3: round to the first waypoint
+round-tried : (c : tie.After-enum-told3) → let e = c .before .before .before .before .before .before in e .args .leg ≡ 2 → e .args .offset ≡ 3 → moved (S e) (runner 2 3) ≡ runner 0 0 → Tried
+round-tried c l u m = tried (λ (need : tie.Need-returns-5). need c) (simp (l, u, m) refl)
+
 returns-5 : tie.Need-returns-5
 returns-5 c = past-last (c .before .before) _ (c .enum-told3 .given .1)
 

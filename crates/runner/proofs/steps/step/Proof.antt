@@ -13,7 +13,7 @@ use prog.Memory.{Memory}
 use prog.Routine.{Routine}
 use prog.Wp.{Heap, Calls, Loops, WpFn, Tables}
 use ghost.Atoms.{Atoms, sem}
-use contract.Monad.{Fun, fact, factI}
+use contract.Monad.{Fun, fact}
 use contract.Running.{givenOf, tables, tablesOf}
 use types.Kit.{Given, ‵, raw, some, later, _⊛_, _$_, _∵_, !, qed, by, move, keep, drop, use1, use2, ⋆, split, pick, join, fsplit, fsplit3, fjoin, fjoin3, feqI, suffices, frame, await, rewrite, done}
 use types.Run.{look, init, forget, stop, hop, fld, from, load, of-opd, and-then, no-more, assigns, land, returns, enter, alloc1, alloc0, params1, pass1, pass0, free1, free0}
@@ -43,14 +43,9 @@ use denote.Triple.Table.{entered, cited}
 use denote.Triple.Walked.{says, Stays, stay-ref, stay-none-slice, walkOf, AllGo, goes-none-slice, goes-ref, Walks, ends-at, walked, walk-meets}
 use denote.Exit.{yes}
 use Rattle.answers.specs.Answers.{toldOutcome, bare}
-use Rattle.answers.specs.declared.Outcome.the-variants.{Refused}
-use Rattle.sheet.specs.Bytes.{be16, be32, signed32, anyBelow, sumBelow}
-use Rattle.sheet.specs.Reading.{readBy}
-use Rattle.sheet.specs.declared.Refusal.the-variants.{Landed}
 use Rattle.runner.specs.Ticks.{runner}
-use Rattle.runner.specs.Steps.{adrift, moved, stepped, onward}
+use Rattle.runner.specs.Steps.{stepped, onward}
 use Rattle.runner.specs.declared.Runner.{Runner}
-use Rattle.runner.proofs.Kept.{four}
 use Rattle.runner.proofs.Runner as T
 use Rattle.runner.proofs.Runner.Laws as T′
 use Rattle.runner.proofs.steps.onward as next
@@ -71,14 +66,6 @@ abbrev stayed : Stays (f.ended .signature .params) (f.ended .kept)
 stayed = (stay-none-slice (0 ∷ []) tt (plain (λ _. u8)) yes, (stay-ref (1 ∷ []) tt (plain (λ _. T.the-row)), tt))
 
 module _ {M : Type 1} (𝓤 : URA M) (H : Heap 𝓤) (A : Atoms 𝓤) (at-mem : Memory → SProp 𝓤) (run : Routine → Fun 𝓤) where
-  -- the promise, tried at a course's last tick: 13, and the record stays
-  abbrev landed : RefT (List ℕ) × (RefT Runner × Unit {0})
-  landed = (record { ptr = (0, 0); name = 0; now = four }, (record { ptr = (0, 0); name = 0; now = runner 0 4 }, tt))
-
-  landed-tried : ent 𝓤 (emp 𝓤) (f.clauses 𝓤 H A at-mem run ([], ([], tt)) landed .ensures tt (Refused Landed) landed)
-  unfolding be16 be32 signed32 anyBelow sumBelow readBy adrift moved stepped onward
-  landed-tried = factI 𝓤 _ (emp 𝓤) (refl, refl)
-
   -- the contract that the proof cites
   abbrev Covered : Contract 𝓤
   Covered = tripleOf 𝓤 H A next.signature (next.spec 𝓤 H A at-mem run)
