@@ -11,15 +11,15 @@ use base.Logic.{SProp, ent, sep, emp, via, fst∗, snd∗, exE, id⊢}
 use base.Fml.{Fml, GName, Lft, Share, ftrue, flft, fobs, fbor, fat}
 use prog.Memory.{Memory}
 use prog.Routine.{Routine}
-use prog.Wp.{Heap, Calls, Loops, WpFn, Tables}
+use prog.Wp.{Heap, Calls, Loops, WpFn}
 use ghost.Atoms.{Atoms, sem}
 use contract.Monad.{Fun, fact}
-use contract.Running.{givenOf, tables, tablesOf}
+use contract.Running.{givenOf}
 use types.Kit.{Given, ‵, raw, some, later, _⊛_, _$_, _∵_, !, qed, by, move, keep, drop, use1, use2, ⋆, split, pick, join, fsplit, fsplit3, fjoin, fjoin3, feqI, suffices, frame, await, rewrite, done}
 use types.Run.{look, init, forget, stop, hop, fld, from, load, of-opd, and-then, no-more, assigns, land, returns, enter, alloc1, alloc0, params1, pass1, pass0, free1, free0}
 use types.Part.{whole, sub, store-in, look-in}
 use types.SemTy.{Body}
-use sound.WpLaws.{FmC, fmOf, WpFn-mono}
+use sound.WpLaws.{FmC}
 use denote.RattleType.{owns}
 use denote.Laws.{Is, shows}
 use denote.Memory.{mem}
@@ -35,17 +35,17 @@ use denote.Steps.{only, opens, closes, owned, peeks, heard, nothing}
 use denote.Struct.Steps.{spelt}
 use denote.Struct.Laws as LL
 use denote.Triple.Entry.{onEntry}
-use denote.Triple.Spec.{Meets, tripleOf}
+use denote.Triple.Spec.{tripleOf}
 use denote.Triple.Statement.{Contract, Triple}
 use denote.Triple.Call.{calls-at}
 use denote.Triple.Clauses.{ensured, lasts}
-use denote.Triple.Table.{entered, cited}
-use denote.Triple.Walked.{says, Stays, stay-ref, stay-none-slice, walkOf, AllGo, goes-none-slice, goes-ref, Walks, ends-at, walked, walk-meets}
+use denote.Triple.Walked.{says, Stays, stay-ref, stay-none-slice, walkOf, AllGo, goes-none-slice, goes-ref, Walks, ends-at, walked}
 use denote.Exit.{yes}
 use Rattle.answers.specs.Answers.{toldOutcome, bare}
 use Rattle.runner.specs.Ticks.{runner}
 use Rattle.runner.specs.Steps.{stepped, onward}
 use Rattle.runner.specs.declared.Runner.{Runner}
+use Rattle.runner.proofs.ByHand.{by-walk}
 use Rattle.runner.proofs.Runner as T
 use Rattle.runner.proofs.Runner.Laws as T′
 use Rattle.runner.proofs.steps.onward as next
@@ -168,14 +168,9 @@ module _ {M : Type 1} (𝓤 : URA M) (H : Heap 𝓤) (A : Atoms 𝓤) (W : Given
   goes : AllGo 𝓤 H A W 2 (f.signature .params) (f.ended .kept) stayed
   goes = (goes-none-slice 𝓤 H A W 2 (0 ∷ []) tt (plain (λ _. u8)) yes, (goes-ref 𝓤 H A W 2 1 tt (plain (λ _. T.the-row)), tt))
 
-step-meets : {M : Type 1} (𝓤 : URA M) (H : Heap 𝓤) (A : Atoms 𝓤) → Given 𝓤 H A → (at-mem : Memory → SProp 𝓤) (run : Routine → Fun 𝓤) (𝓣 : Tables 𝓤 H) → Triple 𝓤 (𝓣 .C #runner·onward) (Covered 𝓤 H A at-mem run)
-    → Meets 𝓤 H A f.signature (WpFn 𝓤 H (𝓣 .C) (𝓣 .Λ) code.function) (f.spec 𝓤 H A at-mem run)
-step-meets 𝓤 H A W at-mem run 𝓣 known = walk-meets 𝓤 H A f.ended stayed W (goes 𝓤 H A W at-mem run) (f.clauses 𝓤 H A at-mem run) (WpFn 𝓤 H (𝓣 .C) (𝓣 .Λ) code.function) (WpFn-mono 𝓤 H (W .laws) 𝓣 code.function) (step-walks 𝓤 H A W at-mem run (𝓣 .C) (𝓣 .Λ) (fmOf 𝓤 H (W .laws) 𝓣) known)
-
 pub step-spec : {M : Type 1} → stated.statement M
-unfolding code.routine tablesOf
+unfolding code.routine
 step-spec 𝓤 H 𝓜 𝓖 𝓡 =
-    entered 𝓤 H (tripleOf 𝓤 H (𝓖 .A) f.signature (f.spec 𝓤 H (𝓖 .A) (𝓜 .mem) (𝓡 .run)))
-    (tables 𝓤 H 𝓜 𝓡 code.env .C) (tables 𝓤 H 𝓜 𝓡 code.env .Λ) #runner·step code.function (code.unfolded 𝓤 H 𝓜 𝓡)
-    (step-meets 𝓤 H (𝓖 .A) (givenOf 𝓤 H 𝓜 𝓖) (𝓜 .mem) (𝓡 .run) (tablesOf 𝓤 H 𝓜 (tables 𝓤 H 𝓜 𝓡 code.env))
-    (cited 𝓤 H (Covered 𝓤 H (𝓖 .A) (𝓜 .mem) (𝓡 .run)) 𝓜 𝓡 code.env #runner·onward next-def.routine code.calls-runner·steps·onward (next-thm.met 𝓤 H 𝓜 𝓖 𝓡)))
+    let W = givenOf 𝓤 H 𝓜 𝓖 in
+    by-walk 𝓤 H 𝓜 𝓖 𝓡 f.ended stayed (goes 𝓤 H (𝓖 .A) W (𝓜 .mem) (𝓡 .run)) (f.clauses 𝓤 H (𝓖 .A) (𝓜 .mem) (𝓡 .run)) code.env #runner·step code.function (code.unfolded 𝓤 H 𝓜 𝓡)
+    #runner·onward next-def.routine code.calls-runner·steps·onward (Covered 𝓤 H (𝓖 .A) (𝓜 .mem) (𝓡 .run)) (next-thm.met 𝓤 H 𝓜 𝓖 𝓡) (step-walks 𝓤 H (𝓖 .A) W (𝓜 .mem) (𝓡 .run))
