@@ -1,5 +1,5 @@
 -- `runner::steps::is_adrift` meets its contract: each way out is the definition with the tests passed on the way put in.
-use mathlib.Core.Path.{sym, ap, _∙_}
+use mathlib.Core.Path.{_≡_, sym, ap, _∙_}
 use mathlib.Core.Bool.{not}
 use native.Mathlib.Omega.{arith}
 use borrow.Author.Tests.{lt-ltb, le-ltb}
@@ -20,6 +20,10 @@ returns c =
 
 leg-length-requires : tie.Need-leg-length-requires
 leg-length-requires c κs = let r = room _ _ _ (c .before .before .pre) in omega arith
+
+-- tried at the full length, 4, of a leg: not below it
+full-tried : (c : tie.Then2) → c .before .before .before .before .args .offset ≡ 4 → c .before .leg-length .result ≡ 4 → ⊥
+full-tried c u h = omega arith
 
 returns-2 : tie.Need-returns-2
 returns-2 c =
