@@ -11,7 +11,7 @@ use Rattle.sheet.proofs.Told.{number-positive}
 use Rattle.sheet.specs.Answers.{refused}
 use Rattle.sheet.specs.declared.Refusal.{Refusal}
 use Rattle.sheet.specs.declared.Refusal.the-variants.{Adrift}
-use Rattle.exports.specs.Written.{put, written, writtenUnsigned}
+use Rattle.exports.specs.Written.{put, writtenBy, written}
 
 module _ {A : Type 0} where
   pub put-room : (values out : List A) → length values ≤ length out → values ++ drop (length values) out ≡ put values out
@@ -44,17 +44,11 @@ three-elements (x ∷ y ∷ z ∷ w ∷ l) h = absurd (omega arith)
 
 -- a refusal writes nothing: tried, and for every one
 kept-tried : written (refused Adrift) (pos 1 ∷ pos 2 ∷ pos 3 ∷ []) ≡ pos 1 ∷ pos 2 ∷ pos 3 ∷ []
-unfolding written
+unfolding writtenBy
 kept-tried = refl
 
-module _ (r : Refusal) where
-  not-zero : refused r .number ≡ 0 → ⊥
-  not-zero e = omega (arith, number-positive r)
-
-  pub refused-written : (out : List ℤ) → out ≡ written (refused r) out
-  unfolding written
-  refused-written out = sym (ap (λ (b : Bool). cond b (put [] out) out) (ne-eqb (refused r .number) 0 not-zero))
-
-  pub refused-unsigned : (out : List ℕ) → out ≡ writtenUnsigned (refused r) out
-  unfolding writtenUnsigned
-  refused-unsigned out = sym (ap (λ (b : Bool). cond b (put [] out) out) (ne-eqb (refused r .number) 0 not-zero))
+pub refused-written : {A : Type 0} (g : List ℤ → List A) (r : Refusal) (out : List A) → out ≡ writtenBy g (refused r) out
+unfolding writtenBy
+refused-written g r out =
+    let some : refused r .number ≡ 0 → ⊥ = λ e. omega (arith, number-positive r) in
+    sym (ap (λ (b : Bool). cond b (put (g []) out) out) (ne-eqb (refused r .number) 0 some))

@@ -16,12 +16,22 @@ use Rattle.runner.specs.Steps.{stepped}
 unfoldable pub put : {A : Type 0} → List A → List A → List A
 put values out = cond (leb (length values) (length out)) (values ++ drop (length values) out) out
 
--- results are written only where the call is not refused: whole numbers, and unsigned ones
-unfoldable pub written : Told → List ℤ → List ℤ
-written t out = cond (eqb (t .number) 0) (put (t .values) out) out
+-- values as a slice of signed numbers holds them, and one of unsigned ones
+abbrev pub signed : List ℤ → List ℤ
+signed values = values
 
-unfoldable pub writtenUnsigned : Told → List ℕ → List ℕ
-writtenUnsigned t out = cond (eqb (t .number) 0) (put (map natAbs (t .values)) out) out
+abbrev pub unsigned : List ℤ → List ℕ
+unsigned values = map natAbs values
+
+-- results are written only where the call is not refused (A9)
+unfoldable pub writtenBy : {A : Type 0} → (List ℤ → List A) → Told → List A → List A
+writtenBy g t out = cond (eqb (t .number) 0) (put (g (t .values)) out) out
+
+abbrev pub written : Told → List ℤ → List ℤ
+written = writtenBy signed
+
+abbrev pub writtenUnsigned : Told → List ℕ → List ℕ
+writtenUnsigned = writtenBy unsigned
 
 -- A1, A8: without a runner the step answers the sheet's refusal, and otherwise adrift
 abbrev pub noRunner : List ℕ → Told

@@ -19,6 +19,7 @@ ghost use Rattle.runner.specs.Ticks.{runner, toldRunner, runnerAtTick};
 ghost use Rattle.place.specs.Places.{toldPlaced, placeAtTick, placeOfRunner};
 ghost use Rattle.exports.specs.Written.{put, written, writtenUnsigned, noRunner, steppedSlice};
 
+// S4: the number of a kind.
 fn kind_number(kind: EndKind) -> u64
     ensures { λ r. ⌜ r ≡ kindNumber kind ⌝ }
 {
@@ -29,6 +30,7 @@ fn kind_number(kind: EndKind) -> u64
     }
 }
 
+// Results at the front of a slice that has room for them: three unsigned, two unsigned, three signed.
 fn put_three(out: &mut [u64], a: u64, b: u64, c: u64)
     ensures { λ _. ⌜ now (out .exit) ≡ put (a ∷ b ∷ c ∷ []) (now (out .entry)) ⌝ }
 {

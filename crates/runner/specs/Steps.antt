@@ -17,17 +17,17 @@ use Rattle.runner.specs.declared.Runner.{Runner}
 abbrev pub landed : List ℕ → Runner → Bool
 landed s r = isOpen (kind s) && eqb (suc (r .leg)) (legs s) && eqb (r .offset) (leg s (r .leg))
 
--- N11: on none of the legs, or past the end of its leg without having landed
+-- N11: on none of the legs, or not below its leg's length and not landed either
 unfoldable pub adrift : List ℕ → Runner → Bool
 adrift s r = not (ltb (r .leg) (legs s)) || not (ltb (r .offset) (leg s (r .leg)) || landed s r)
 
--- past the last leg: round to the first waypoint, or at the end of an open course
+-- from the last tick of the last leg: to the end of an open course, or round to the first waypoint
 abbrev pub lastStep : EndKind → Runner → Runner
 lastStep Free r = runner (r .leg) (suc (r .offset))
 lastStep Held r = runner (r .leg) (suc (r .offset))
 lastStep Closed r = runner 0 0
 
--- moved on by one tick: on its leg, or to the start of the next one
+-- M2, untested: one tick on, on its leg or to the start of the next one
 unfoldable pub moved : List ℕ → Runner → Runner
 moved s r =
     cond (ltb (suc (r .offset)) (leg s (r .leg))) (runner (r .leg) (suc (r .offset)))

@@ -26,11 +26,11 @@ TickStands = (s : List ℕ) → Accepted s → (t : ℕ)
 abbrev pub OneRunner : Type 0
 OneRunner = (s : List ℕ) → Accepted s → (r : Runner) → adrift s r ≡ false → spotAt s (tickOf s r) ≡ r
 
--- M4, for every n
+-- M4: on a closed course n steps, for every n, lead to the runner from tick n
 abbrev pub ClosedSteps : Type 0
 ClosedSteps = (s : List ℕ) → Accepted s → kind s ≡ Closed → (n : ℕ) → after s n ≡ spotAt s n
 
--- M5, for every n
+-- M5: on an open course they lead to tick n or, from P on, to the end, where a step is refused with 13
 abbrev pub OpenSteps : Type 0
 OpenSteps = (s : List ℕ) → Accepted s → isOpen (kind s) ≡ true → (n : ℕ)
     → (after s n ≡ spotAt s (min n (ticks s))) × (ticks s ≤ n → stepped s (after s n) ≡ refused Landed)

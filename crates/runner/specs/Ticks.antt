@@ -23,10 +23,11 @@ pub record IsRead (s : List ℕ) (k : EndKind) (l : ℕ) : Type 0 where
   pub is-kind : k ≡ kind s
   pub is-legs : l ≡ legs s
 
+-- M1: the runner with these two numbers
 abbrev pub runner : ℕ → ℕ → Runner
 runner i u = record { leg = i; offset = u }
 
--- the number and values of each answer: leg and offset
+-- F8: the number and values of each answer; a runner's are leg and offset
 abbrev pub found : Runner → Told
 found r = record { number = 0; values = pos (r .leg) ∷ pos (r .offset) ∷ [] }
 

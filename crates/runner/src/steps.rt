@@ -23,7 +23,7 @@ fn is_landed(s: &[u8], kind: EndKind, legs: usize, leg: u64, offset: u64) -> boo
     is_open(kind) & (leg + 1 == legs as u64) & (offset == leg_length(s, leg as usize))
 }
 
-// N11: on no leg, or past the end of its leg; an open course's end is allowed.
+// N11: on none of the legs, or not below its leg's length; an open course's end is allowed.
 pub fn is_adrift(s: &[u8], kind: EndKind, legs: usize, leg: u64, offset: u64) -> bool
     requires { ⌜ IsRead (now s) kind legs ⌝ }
     ensures { λ r. ⌜ r ≡ adrift (now (s .entry)) (runner leg offset) ⌝ }

@@ -1,4 +1,5 @@
 -- `exports::station_place_of_runner` meets its contract: the place is told, and telling writes it.
+use Rattle.exports.specs.Written.{signed}
 use Rattle.exports.proofs.Tell.{tells-on}
 use borrow.Author.Needs.{needs}
 use Rattle.exports.proofs.station_place_of_runner.Statement.{statement}
@@ -16,7 +17,7 @@ same-length c = search needs
 returns : tie.Need-returns
 returns c =
     let t = c .before in let p = t .before .before in
-    tells-on (p .before .before .args .out .now) (t .tell-place .ensures) (p .place-of-runner .ensures .0)
+    tells-on signed (p .before .before .args .out .now) (t .tell-place .ensures) (p .place-of-runner .ensures .0)
 
 pub station-place-of-runner-spec : {M : Type 1} → statement M
 station-place-of-runner-spec =

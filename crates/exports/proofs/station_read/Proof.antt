@@ -3,8 +3,8 @@ use mathlib.Core.Path.{sym, ap, _∙_}
 use mathlib.Core.List.{[], _∷_}
 use Prim.Native.Nat.{ℕ}
 use Rattle.sheet.specs.Answers.{told}
-use Rattle.exports.specs.Written.{put}
-use Rattle.exports.proofs.Tell.{done-unsigned, kept-unsigned}
+use Rattle.exports.specs.Written.{put, unsigned}
+use Rattle.exports.proofs.Tell.{done-written, kept-written}
 use borrow.Author.Needs.{needs}
 use Rattle.exports.proofs.station_read.Statement.{statement}
 use Rattle.exports.proofs.station_read.Tie as tie
@@ -34,14 +34,14 @@ returns : tie.Need-returns
 returns c =
     let k = c .before .before .before .before .before .before in
     let g = k .kind .given .0 in let a = k .before .before in
-    done-unsigned _ _ (ap told (sym (k .kind .given .1)) ∙ a .read .ensures) _ _
+    done-written unsigned _ _ (ap told (sym (k .kind .given .1)) ∙ a .read .ensures) _ _
     (c .before .before .put-three .ensures
     ∙ ap (λ (n : ℕ). put (n ∷ g .1 .0 ∷ g .1 .1 .0 ∷ []) (a .before .before .before .args .out .now)) (c .before .before .before .kind-number .ensures))
 
 returns-2 : tie.Need-returns-2
 returns-2 c =
     let r = c .before .before in
-    kept-unsigned _ (r .r .given .0 .0) (ap told (sym (r .r .given .1)) ∙ r .before .before .read .ensures) _ (c .number-of .ensures) _
+    kept-written unsigned _ (r .r .given .0 .0) (ap told (sym (r .r .given .1)) ∙ r .before .before .read .ensures) _ (c .number-of .ensures) _
 
 pub station-read-spec : {M : Type 1} → statement M
 station-read-spec =

@@ -1,6 +1,7 @@
 -- `exports::station_step` meets its contract: a slice with two numbers lends a runner, and a shorter one none; telling writes the answer.
 use mathlib.Core.Path.{_∙_}
-use Rattle.exports.proofs.Tell.{tells-on-unsigned}
+use Rattle.exports.specs.Written.{unsigned}
+use Rattle.exports.proofs.Tell.{tells-on}
 use Rattle.exports.proofs.Lent.{runner-lent, none-lent}
 use borrow.Author.Needs.{needs}
 use Rattle.exports.proofs.station_step.Statement.{statement}
@@ -19,7 +20,7 @@ returns : tie.Need-returns
 returns c =
     let t = c .before .before in let s = t .before .before .before .before .before .before .args in
     let short = t .before .before .before .if1 .taken in
-    tells-on-unsigned (s .lent .now) (t .tell-runner .ensures) (t .before .before .no-runner .ensures ∙ none-lent (s .sheet .now) (s .lent .now) short)
+    tells-on unsigned (s .lent .now) (t .tell-runner .ensures) (t .before .before .no-runner .ensures ∙ none-lent (s .sheet .now) (s .lent .now) short)
 
 slice-read-stepped : tie.Need-slice-read-stepped
 slice-read-stepped c = search needs
@@ -40,7 +41,7 @@ returns-2 : tie.Need-returns-2
 returns-2 c =
     let t = c .before .before in let s = t .before .before .before .before .before .before .before .before .args in
     let room = t .before .before .before .before .before .if1 .left in
-    tells-on-unsigned (s .lent .now) (t .tell-runner2 .ensures) (t .before .before .stepped .ensures ∙ runner-lent (s .sheet .now) (s .lent .now) room)
+    tells-on unsigned (s .lent .now) (t .tell-runner2 .ensures) (t .before .before .stepped .ensures ∙ runner-lent (s .sheet .now) (s .lent .now) room)
 
 pub station-step-spec : {M : Type 1} → statement M
 station-step-spec =

@@ -6,7 +6,7 @@ use lib.ListN.{length}
 use Rattle.integers.proofs.Machine.{back}
 use Rattle.answers.specs.declared.Outcome.{Outcome}
 use Rattle.place.specs.Places.{toldBy, toldPlaced}
-use Rattle.exports.specs.Written.{put}
+use Rattle.exports.specs.Written.{put, signed}
 use Rattle.exports.proofs.Put.{three-elements}
 use Rattle.exports.proofs.Tell.{done-written, kept-written}
 use borrow.Author.Needs.{needs}
@@ -48,7 +48,7 @@ returns c =
     let north = back refl (record { sfits = first .put-place-arg2 .given }) in
     let east = back refl (record { sfits = second .put-place-arg3 .given }) in
     let up = back refl (record { sfits = c .before .before .put-place-arg4 .given }) in
-    done-written (toldPlaced a) (a .place .at) (ap (λ (x : Outcome). toldBy x (a .place .at)) (sym (o .enum-told .given .1))) _ _
+    done-written signed (toldPlaced a) (a .place .at) (ap (λ (x : Outcome). toldBy x (a .place .at)) (sym (o .enum-told .given .1))) _ _
     (c .before .put-place .ensures
     ∙ (λ i. put (north i ∷ east i ∷ up i ∷ []) (s .args .out .now))
     ∙ ap (λ (l : List ℤ). put l (s .args .out .now)) (three-elements (a .place .at) (three-long s)))
@@ -56,7 +56,7 @@ returns c =
 returns-2 : tie.Need-returns-2
 returns-2 c =
     let o = c .before .before in let a = o .before .before .before .before .args .answer in
-    kept-written (toldPlaced a) (o .outcome .given .0 .0) (ap (λ (x : Outcome). toldBy x (a .place .at)) (sym (o .outcome .given .1))) _ (c .number-of .ensures) _
+    kept-written signed (toldPlaced a) (o .outcome .given .0 .0) (ap (λ (x : Outcome). toldBy x (a .place .at)) (sym (o .outcome .given .1))) _ (c .number-of .ensures) _
 
 pub tell-place-spec : {M : Type 1} → statement M
 tell-place-spec =

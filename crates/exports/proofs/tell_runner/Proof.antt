@@ -1,7 +1,8 @@
 -- `exports::tell_runner` meets its contract: two numbers are written, or a refusal's number is given.
 use mathlib.Core.Path.{sym, ap}
 use Rattle.runner.specs.Ticks.{toldRunner}
-use Rattle.exports.proofs.Tell.{done-unsigned, kept-unsigned}
+use Rattle.exports.specs.Written.{unsigned}
+use Rattle.exports.proofs.Tell.{done-written, kept-written}
 use borrow.Author.Needs.{needs}
 use Rattle.exports.proofs.tell_runner.Statement.{statement}
 use Rattle.exports.proofs.tell_runner.Tie as tie
@@ -24,10 +25,10 @@ same-length c = search needs
 returns : tie.Need-returns
 returns c =
     let a = c .before .before .before .before .before .answer in
-    done-unsigned _ _ (ap toldRunner (sym (a .given .1))) _ _ (c .before .before .put-two .ensures)
+    done-written unsigned _ _ (ap toldRunner (sym (a .given .1))) _ _ (c .before .before .put-two .ensures)
 
 returns-2 : tie.Need-returns-2
-returns-2 c = let a = c .before .before .answer2 in kept-unsigned _ (a .given .0 .0) (ap toldRunner (sym (a .given .1))) _ (c .number-of .ensures) _
+returns-2 c = let a = c .before .before .answer2 in kept-written unsigned _ (a .given .0 .0) (ap toldRunner (sym (a .given .1))) _ (c .number-of .ensures) _
 
 pub tell-runner-spec : {M : Type 1} → statement M
 tell-runner-spec =
