@@ -1,5 +1,5 @@
 -- `exports::station_read` meets its contract: the reader's answer decides what is written.
-use mathlib.Core.Path.{sym, ap, _∙_}
+use mathlib.Core.Path.{_≡_, refl, sym, ap, _∙_}
 use mathlib.Core.List.{[], _∷_}
 use Prim.Native.Nat.{ℕ}
 use Rattle.sheet.specs.Answers.{told}
@@ -29,6 +29,12 @@ number-of-requires c κs = search needs
 
 same-length : tie.Need-same-length
 same-length c = search needs
+
+-- tried at course A: kind 0, N 3, P 4 in this order
+order-tried : (c : tie.After-put-three) → let k = c .before .before .before .before in let g = k .kind .given .0 in c .before .kind-number .result ≡ 0 → g .1 .0 ≡ 3 → g .1 .1 .0 ≡ 4
+    → k .before .before .before .before .before .args .out .now ≡ 9 ∷ 9 ∷ 9 ∷ [] → c .put-three .last .0 ≡ 0 ∷ 3 ∷ 4 ∷ []
+unfolding put
+order-tried c k n p o = c .put-three .ensures ∙ simp (k, n, p, o) refl
 
 returns : tie.Need-returns
 returns c =
