@@ -16,7 +16,7 @@ use Rattle.ends.specs.declared.EndKind.the-variants.{Free, Held, Closed}
 use Rattle.rounding.specs.Rounded.{rounded}
 use Rattle.systems.specs.Rows.{Row, Rows}
 use Rattle.systems.specs.Passes.{at, target, renewed, sweep, pass}
-use Rattle.systems.proofs.Lists.{step-present, step-absent, sweep-next, length-sweep}
+use Rattle.systems.proofs.Lists.{turn-present, turn-absent, sweep-next, length-sweep}
 use Rattle.spline.specs.Spline.{Course, next, prev, freeRow, rowOf, rowsBy, rows}
 use Rattle.spline.proofs.Bends.{bends-bounded}
 use Rattle.layout.specs.Course.{course}
@@ -84,11 +84,11 @@ module _ {s : List ℕ} {k : EndKind} {n axis : ℕ} (o : OnSheet s k n axis) wh
   sweep-set : (zs : List ℤ) (i : ℕ) → HasRow k n i → sweep R 65536 (i + 1) zs ≡ set (sweep R 65536 i zs) i (renewed R 65536 (sweep R 65536 i zs) i)
   sweep-set zs i h =
       ap (λ (m : ℕ). sweep R 65536 m zs) (add-one i) ∙ sweep-next R 65536 i zs
-      ∙ step-present R 65536 (sweep R 65536 i zs) i (ap (λ (r : Row). r .present) (row-is i) ∙ row-present o i h)
+      ∙ turn-present R 65536 (sweep R 65536 i zs) i (ap (λ (r : Row). r .present) (row-is i) ∙ row-present o i h)
 
   sweep-past : (zs : List ℤ) (i : ℕ) → rowOf 2 1 k c i ≡ freeRow → sweep R 65536 (suc i) zs ≡ sweep R 65536 i zs
   unfolding freeRow
-  sweep-past zs i e = sweep-next R 65536 i zs ∙ step-absent R 65536 (sweep R 65536 i zs) i (ap (λ (r : Row). r .present) (row-is i ∙ e))
+  sweep-past zs i e = sweep-next R 65536 i zs ∙ turn-absent R 65536 (sweep R 65536 i zs) i (ap (λ (r : Row). r .present) (row-is i ∙ e))
 
   sweep-start : (e : EndKind) → k ≡ e → (zs : List ℤ) → sweep R 65536 (skipped e) zs ≡ zs
   unfolding sweep

@@ -1,5 +1,5 @@
--- The course's own bend numbers: its rows meet all that crate systems asks of rows to be passed over, so the 40 passes come within nine eighths of every exact
--- spline (01, Laying out), no number on the way is large, and positions are within one and a half millimetres.
+-- A course's bend numbers: its rows have all that crate systems asks of rows to be passed over. So forty passes come within nine eighths of every exact
+-- spline (L6), no number on the way is large, and positions are near (C8).
 use Prim.Native.Nat.{ℕ, _*_, _-_, _≤_, _<_}
 use native.Mathlib.Omega.{arith}
 use native.Mathlib.Nat.{mul-le-mul, mul-le-mul-left}
@@ -17,7 +17,7 @@ use Rattle.spline.proofs.RowBounds.{Q, row-bounded, rows-dominant}
 use Rattle.spline.proofs.RowsFollow.{rows-follow}
 use Rattle.spline.proofs.Distance.{position-sharp}
 
--- what systems takes for granted, of the rows of every k and m
+-- what systems asks, of the rows of every k and m
 pub rows-passing : (k m : ℕ) → 2 ≤ k → m ≤ k - 1 → {c : Course} → InBounds c → Passing k (rowsBy k m c) 65536 Q (replicate (c .points) (pos 0))
 unfolding rowsBy
 rows-passing k m two l {c} bounds = record {
@@ -29,9 +29,9 @@ rows-passing k m two l {c} bounds = record {
 
 pub bends-near : BendsNear
 unfolding rowsBy
-bends-near c bounds s exact i l =
+bends-near c bounds f exact i l =
     forty-passes-near 2 (rows c) 65536 Q (replicate (c .points) (pos 0)) (rows-passing 2 1 (lit≤ tt) (lit≤ tt) bounds) (lit≤ tt)
-    (6 * s .denominator) (bend6 c s) (rows-follow c bounds s exact) i l
+    (6 * f .denominator) (bend6 c f) (rows-follow c bounds f exact) i l
 
 pub bends-bounded : BendsBounded
 unfolding rowsBy
@@ -40,11 +40,11 @@ bends-bounded c bounds = passes-bounded 2 (rows c) 65536 Q (replicate (c .points
 -- at most 1/2 + 27 × 256 × 256 / 2,097,152 = 1 + 11/32
 pub position-near : PositionNear
 unfolding Near
-position-near c bounds s exact i u l ul =
+position-near c bounds f exact i u l ul =
     let n : i < c .points = omega (arith, counts bounds) in
     omega (
       arith,
-      position-sharp c bounds s exact i u l ul 9 (at (bends c) i) (at (bends c) (next c i))
-          (bends-near c bounds s exact i n) (bends-near c bounds s exact (next c i) (next-lt c i n)),
-      mul-le-mul-left (s .denominator) (mul-le-mul (bounds .leg i l .1) (bounds .leg i l .1)),
+      position-sharp c bounds f exact i u l ul 9 (at (bends c) i) (at (bends c) (next c i))
+          (bends-near c bounds f exact i n) (bends-near c bounds f exact (next c i) (next-lt c i n)),
+      mul-le-mul-left (f .denominator) (mul-le-mul (bounds .leg i l .1) (bounds .leg i l .1)),
     )

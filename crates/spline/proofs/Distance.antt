@@ -1,5 +1,5 @@
--- How far a position is from the exact spline (DESIGN 3.5). With u of a leg's h ticks gone, what the bend numbers are off weighs u(h - u)((h + u) + (2h - u))
--- over 6 × 65,536 × h, and 4u(h - u) is at most h × h; the rounding adds a half.
+-- How far a position is from the exact spline. With u of a leg's h ticks gone, what the two bend numbers are off weighs 3h × u(h - u) in all, over
+-- 6 × 65,536 × h, and 4u(h - u) is at most h × h; the rounding adds a half.
 use mathlib.Core.Path.{_≡_}
 use mathlib.Core.List.{[], _∷_}
 use Prim.Native.Nat.{ℕ, _+_, _*_, _≤_}
@@ -49,10 +49,10 @@ module _ {D h : ℕ} {v w x y : ℤ} {k : Cubic} (leg : Leg D h v w x y k) (u : 
   unfolding valueAt
   value-by-bends =
       let f = coefficients leg in
-      lin 11 (λ D h u v w x y c0 c1 c2 c3.
+      lin 11 (λ D h t v w x y c0 c1 c2 c3.
       c0 ≐ D ⊗ v ∷ # 6 ⊗ h ⊗ c1 ≐ # 6 ⊗ D ⊗ (w ⊖ v) ⊖ h ⊗ h ⊗ (# 2 ⊗ x ⊕ y) ∷ # 2 ⊗ c2 ≐ x ∷ # 6 ⊗ h ⊗ c3 ≐ y ⊖ x ∷ []
-      ⊢ # 6 ⊗ h ⊗ (c0 ⊕ c1 ⊗ u ⊕ c2 ⊗ u ⊗ u ⊕ c3 ⊗ u ⊗ u ⊗ u) ≗ # 6 ⊗ D ⊗ ((h ⊖ u) ⊗ v ⊕ u ⊗ w) ⊖ u ⊗ (h ⊖ u) ⊗ ((h ⊕ u) ⊗ y ⊕ (# 2 ⊗ h ⊖ u) ⊗ x)
-      with # 6 ⊗ h ∷ u ∷ # 3 ⊗ h ⊗ u ⊗ u ∷ u ⊗ u ⊗ u ∷ []) tt
+      ⊢ # 6 ⊗ h ⊗ (c0 ⊕ c1 ⊗ t ⊕ c2 ⊗ t ⊗ t ⊕ c3 ⊗ t ⊗ t ⊗ t) ≗ # 6 ⊗ D ⊗ ((h ⊖ t) ⊗ v ⊕ t ⊗ w) ⊖ t ⊗ (h ⊖ t) ⊗ ((h ⊕ t) ⊗ y ⊕ (# 2 ⊗ h ⊖ t) ⊗ x)
+      with # 6 ⊗ h ∷ t ∷ # 3 ⊗ h ⊗ t ⊗ t ∷ t ⊗ t ⊗ t ∷ []) tt
       (pos D) (pos h) (pos u) v w x y (k .c0) (k .c1) (k .c2) (k .c3) (f .zeroth) (f .first) (f .second) (f .third)
 
   -- what the position X is off, by what the rounding and the bend numbers are off
@@ -62,11 +62,11 @@ module _ {D h : ℕ} {v w x y : ℤ} {k : Cubic} (leg : Leg D h v w x y k) (u : 
       *ℤ ((pos h +ℤ pos u) *ℤ (pos (6 * D) *ℤ Y -ℤ pos 65536 *ℤ y) +ℤ (pos 2 *ℤ pos h -ℤ pos u) *ℤ (pos (6 * D) *ℤ Z -ℤ pos 65536 *ℤ x))
   unfolding numerator
   error-by-bends Z Y X =
-      lin 11 (λ D h u v w x y Z Y X F.
-      # 6 ⊗ h ⊗ F ≐ # 6 ⊗ D ⊗ ((h ⊖ u) ⊗ v ⊕ u ⊗ w) ⊖ u ⊗ (h ⊖ u) ⊗ ((h ⊕ u) ⊗ y ⊕ (# 2 ⊗ h ⊖ u) ⊗ x) ∷ []
+      lin 11 (λ D h t v w x y Z Y X F.
+      # 6 ⊗ h ⊗ F ≐ # 6 ⊗ D ⊗ ((h ⊖ t) ⊗ v ⊕ t ⊗ w) ⊖ t ⊗ (h ⊖ t) ⊗ ((h ⊕ t) ⊗ y ⊕ (# 2 ⊗ h ⊖ t) ⊗ x) ∷ []
       ⊢ # 6 ⊗ # 65536 ⊗ h ⊗ (D ⊗ X ⊖ F) ≗
-      # 6 ⊗ D ⊗ (# 65536 ⊗ h ⊗ X ⊖ (# 65536 ⊗ (u ⊗ w ⊕ (h ⊖ u) ⊗ v) ⊖ u ⊗ (h ⊖ u) ⊗ ((h ⊕ u) ⊗ Y ⊕ (# 2 ⊗ h ⊖ u) ⊗ Z)))
-      ⊖ u ⊗ (h ⊖ u) ⊗ ((h ⊕ u) ⊗ (# 6 ⊗ D ⊗ Y ⊖ # 65536 ⊗ y) ⊕ (# 2 ⊗ h ⊖ u) ⊗ (# 6 ⊗ D ⊗ Z ⊖ # 65536 ⊗ x))
+      # 6 ⊗ D ⊗ (# 65536 ⊗ h ⊗ X ⊖ (# 65536 ⊗ (t ⊗ w ⊕ (h ⊖ t) ⊗ v) ⊖ t ⊗ (h ⊖ t) ⊗ ((h ⊕ t) ⊗ Y ⊕ (# 2 ⊗ h ⊖ t) ⊗ Z)))
+      ⊖ t ⊗ (h ⊖ t) ⊗ ((h ⊕ t) ⊗ (# 6 ⊗ D ⊗ Y ⊖ # 65536 ⊗ y) ⊕ (# 2 ⊗ h ⊖ t) ⊗ (# 6 ⊗ D ⊗ Z ⊖ # 65536 ⊗ x))
       with ⊝ # 65536 ∷ []) tt (pos D) (pos h) (pos u) v w x y Z Y X (valueAt k u) value-by-bends
 
   -- from bend numbers within b eighths of 65,536 times the exact bends x / 6D and y / 6D
@@ -93,4 +93,4 @@ module _ {D h : ℕ} {v w x y : ℤ} {k : Cubic} (leg : Leg D h v w x y k) (u : 
       le-of-mul-le-mul-left {k = 6 * h} (omega (arith, rw (abs-mul (pos (6 * h)) (pos 2097152 *ℤ A), abs-mul (pos 2097152) A) at all)) (omega arith)
 
 pub position-sharp : PositionSharp
-position-sharp c bounds s exact i u l ul b Z Y = leg-near (exact-legs exact bounds .leg i l) u (bounds .leg i l .0) ul b Z Y
+position-sharp c bounds f exact i u l ul b Z Y = leg-near (exact-legs exact bounds .leg i l) u (bounds .leg i l .0) ul b Z Y

@@ -1,5 +1,5 @@
--- The exact spline exists (01). The rows have a solution y over some E; with a number H that every leg divides, the product of all legs, the legs' cubics
--- have whole coefficients over E × H (DESIGN 3.4), and their second derivatives are 6 × H × y.
+-- The exact spline exists (C4). The rows have a solution y over some E. With H, the product of all legs, the legs' cubics have whole coefficients over E × H,
+-- and their second derivatives at the waypoints are 6 × H × y.
 use mathlib.Core.Path.{_≡_, _∙_, ap}
 use mathlib.Core.List.{[], _∷_}
 use Prim.Native.Nat.{ℕ, _*_, _/_, _≤_, _<_}

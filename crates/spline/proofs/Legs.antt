@@ -69,39 +69,39 @@ module _ {D h : ℕ} {v w x y : ℤ} {k : Cubic} (leg : Leg D h v w x y k) where
       ⊢ # 6 ⊗ h ⊗ (c1 ⊕ # 2 ⊗ c2 ⊗ h ⊕ # 3 ⊗ c3 ⊗ h ⊗ h) ≗ # 6 ⊗ D ⊗ (w ⊖ v) ⊕ h ⊗ h ⊗ (x ⊕ # 2 ⊗ y) with # 1 ∷ # 6 ⊗ h ⊗ h ∷ # 3 ⊗ h ⊗ h ∷ []) tt
       (pos D) (pos h) v w x y (k .c1) (k .c2) (k .c3) (coefficients .first) (coefficients .second) (coefficients .third)
 
--- ---- all legs of a course: the curve s meets all waypoints, and its second derivative at the waypoint i, times D, is x(i), on the leg that ends there and on
+-- ---- all legs of a course: the curve f meets all waypoints, and its second derivative at the waypoint i, times D, is x(i), on the leg that ends there and on
 -- the leg that starts there
-pub record Legs (c : Course) (s : Curve) (x : ℕ → ℤ) : Type 0 where
-  pub leg : (i : ℕ) → i < legs c → Leg (s .denominator) (c .leg i) (c .value i) (c .value (next c i)) (x i) (x (next c i)) (s .cubic i)
+pub record Legs (c : Course) (f : Curve) (x : ℕ → ℤ) : Type 0 where
+  pub leg : (i : ℕ) → i < legs c → Leg (f .denominator) (c .leg i) (c .value i) (c .value (next c i)) (x i) (x (next c i)) (f .cubic i)
 
 -- the leg before the waypoint i
-pub leg-before : {c : Course} {s : Curve} {x : ℕ → ℤ} → Legs c s x → (i : ℕ) → i < c .points → prev c i < legs c
-    → Leg (s .denominator) (legBefore c i) (c .value (prev c i)) (c .value i) (x (prev c i)) (x i) (s .cubic (prev c i))
-leg-before {c} {s} {x} all i n l =
-    subst (λ (j : ℕ). Leg (s .denominator) (legBefore c i) (c .value (prev c i)) (c .value j) (x (prev c i)) (x j) (s .cubic (prev c i)))
+pub leg-before : {c : Course} {f : Curve} {x : ℕ → ℤ} → Legs c f x → (i : ℕ) → i < c .points → prev c i < legs c
+    → Leg (f .denominator) (legBefore c i) (c .value (prev c i)) (c .value i) (x (prev c i)) (x i) (f .cubic (prev c i))
+leg-before {c} {f} {x} all i n l =
+    subst (λ (j : ℕ). Leg (f .denominator) (legBefore c i) (c .value (prev c i)) (c .value j) (x (prev c i)) (x j) (f .cubic (prev c i)))
     (next-prev c i n) (all .leg (prev c i) l)
 
 -- ---- an exact spline's second derivatives at the waypoints are its bends
-bend-cases : (c : Course) (s : Curve) (i : ℕ) (P : ℤ → Type 0)
-    → (i < legs c → P (secondAt (s .cubic i) 0)) → (legs c ≤ i → P (secondAt (s .cubic (prev c i)) (legBefore c i))) → P (bend6 c s i)
+bend-cases : (c : Course) (f : Curve) (i : ℕ) (P : ℤ → Type 0)
+    → (i < legs c → P (secondAt (f .cubic i) 0)) → (legs c ≤ i → P (secondAt (f .cubic (prev c i)) (legBefore c i))) → P (bend6 c f i)
 unfolding bend6
-bend-cases c s i P f g =
-    by-test (ltb i (legs c)) (secondAt (s .cubic i) 0) (secondAt (s .cubic (prev c i)) (legBefore c i)) P
-    (λ t. f (ltb→lt i (legs c) t)) (λ t. g (nltb→le i (legs c) t))
+bend-cases c f i P after before =
+    by-test (ltb i (legs c)) (secondAt (f .cubic i) 0) (secondAt (f .cubic (prev c i)) (legBefore c i)) P
+    (λ t. after (ltb→lt i (legs c) t)) (λ t. before (nltb→le i (legs c) t))
 
-module _ {c : Course} {s : Curve} (exact : Exact c s) where
-  second-after : (i : ℕ) → i < legs c → secondAt (s .cubic i) 0 ≡ bend6 c s i
-  second-after i l = bend-cases c s i (λ b. secondAt (s .cubic i) 0 ≡ b) (λ a. refl) (λ a. absurd (omega arith))
+module _ {c : Course} {f : Curve} (exact : Exact c f) where
+  second-after : (i : ℕ) → i < legs c → secondAt (f .cubic i) 0 ≡ bend6 c f i
+  second-after i l = bend-cases c f i (λ b. secondAt (f .cubic i) 0 ≡ b) (λ a. refl) (λ a. absurd (omega arith))
 
-  second-before : (i : ℕ) → prev c i < legs c → secondAt (s .cubic (prev c i)) (legBefore c i) ≡ bend6 c s i
-  second-before i l = bend-cases c s i (λ b. secondAt (s .cubic (prev c i)) (legBefore c i) ≡ b) (exact .secondAgrees i l) (λ a. refl)
+  second-before : (i : ℕ) → prev c i < legs c → secondAt (f .cubic (prev c i)) (legBefore c i) ≡ bend6 c f i
+  second-before i l = bend-cases c f i (λ b. secondAt (f .cubic (prev c i)) (legBefore c i) ≡ b) (exact .secondAgrees i l) (λ a. refl)
 
-  pub exact-legs : InBounds c → Legs c s (bend6 c s)
+  pub exact-legs : InBounds c → Legs c f (bend6 c f)
   exact-legs bounds = record {
     leg = λ i l. let back : prev c (next c i) ≡ i = prev-next c i (omega (arith, counts bounds)) in record {
       meetsStart = exact .meetsStart i l;
       meetsEnd = exact .meetsEnd i l;
       secondStart = second-after i l;
-      secondEnd = subst (λ (j : ℕ). secondAt (s .cubic j) (c .leg j) ≡ bend6 c s (next c i)) back (second-before (next c i) (rw back l));
+      secondEnd = subst (λ (j : ℕ). secondAt (f .cubic j) (c .leg j) ≡ bend6 c f (next c i)) back (second-before (next c i) (rw back l));
     };
   }

@@ -1,5 +1,5 @@
--- Any two exact splines of a course are the same curve (01: "every curve with its properties is that same one"): the bends of both solve the rows, which have
--- one solution, and a leg's cubic is given by its bends.
+-- Any two exact splines of a course are the same curve (C4): the bends of both solve the rows, which have one solution, and a leg's cubic is given by its
+-- bends.
 use mathlib.Core.Path.{_≡_}
 use mathlib.Core.List.{[], _∷_}
 use Prim.Native.Nat.{ℕ, _*_, _≤_, _<_}
@@ -46,18 +46,18 @@ cubics-same {D} {E} {h} {v} {w} {x} {y} {x′} {y′} {k} {l} a b h1 p q = recor
     cancelled : (n : ℕ) → 1 ≤ n → (c c′ : ℤ) → pos n *ℤ (pos E *ℤ c) ≡ pos n *ℤ (pos D *ℤ c′) → pos E *ℤ c ≡ pos D *ℤ c′
     cancelled n n1 c c′ = cancel-eq (pos n) (pos E *ℤ c) (pos D *ℤ c′) (pos-lt n n1)
 
-module _ {c : Course} (bounds : InBounds c) {s t : Curve} (p : Exact c s) (q : Exact c t) where
-  bends-same : (i : ℕ) → i < c .points → pos (t .denominator) *ℤ bend6 c s i ≡ pos (s .denominator) *ℤ bend6 c t i
+module _ {c : Course} (bounds : InBounds c) {a b : Curve} (p : Exact c a) (q : Exact c b) where
+  bends-same : (i : ℕ) → i < c .points → pos (b .denominator) *ℤ bend6 c a i ≡ pos (a .denominator) *ℤ bend6 c b i
   unfolding rowsBy
   bends-same i l =
       lin 4 (λ D E x y. # 6 ⊗ E ⊗ x ≐ # 6 ⊗ D ⊗ y ∷ [] ⊢ E ⊗ x ≐ D ⊗ y times 5 by hyp 0 ∷ low 0 ∷ []) tt
-      (pos (s .denominator)) (pos (t .denominator)) (bend6 c s i) (bend6 c t i)
-      (unique 2 (rows c) (rows-dominant bounds 2 1 (omega arith)) (6 * s .denominator) (6 * t .denominator) (bend6 c s) (bend6 c t)
-      (rows-follow c bounds s p) (rows-follow c bounds t q) i l)
+      (pos (a .denominator)) (pos (b .denominator)) (bend6 c a i) (bend6 c b i)
+      (unique 2 (rows c) (rows-dominant bounds 2 1 (omega arith)) (6 * a .denominator) (6 * b .denominator) (bend6 c a) (bend6 c b)
+      (rows-follow c bounds a p) (rows-follow c bounds b q) i l)
 
 pub one-curve : OneCurve
 unfolding SameCurve
-one-curve c bounds s t p q i l =
+one-curve c bounds a b p q i l =
     let n : i < c .points = omega (arith, counts bounds) in
     cubics-same (exact-legs p bounds .leg i l) (exact-legs q bounds .leg i l) (bounds .leg i l .0)
     (bends-same bounds p q i n) (bends-same bounds p q (next c i) (next-lt c i n))

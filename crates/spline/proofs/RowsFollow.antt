@@ -1,5 +1,5 @@
--- A row is off by a factor times the jump of what the exact spline asks of its waypoint. So the rows follow from the properties (01: "That the rows follow
--- from these properties is to be proved"), and the properties from the rows (Existence).
+-- A row is off by a factor times the jump of what the exact spline asks of its waypoint. So the rows follow from the properties (E5), and the properties
+-- from the rows (Existence).
 use mathlib.Core.Path.{_≡_, sym, _∙_, subst}
 use mathlib.Core.List.{[], _∷_}
 use Prim.Native.Nat.{ℕ, _*_, _-_, _≤_, _<_}
@@ -18,12 +18,12 @@ use Rattle.spline.proofs.Seats.{lastPoint, Seat, seat, seat-row, shared
 use Rattle.spline.proofs.Legs.{Leg, Legs, leg-before, exact-legs, first-start, first-end}
 
 -- the two numbers that an exact spline asks to be equal at a waypoint
-abbrev asked : {c : Course} (s : Curve) {i : ℕ} {r : Row} → Seat 2 1 c i r → ℤ × ℤ
-asked {c} s (shared i f g) = (firstAt (s .cubic (prev c i)) (legBefore c i), firstAt (s .cubic i) 0)
-asked {c} s (freeStart q) = (secondAt (s .cubic 0) 0, pos 0)
-asked {c} s (freeEnd q) = (secondAt (s .cubic (legs c - 1)) (c .leg (legs c - 1)), pos 0)
-asked {c} s (heldStart q) = (pos (s .denominator) *ℤ c .startSlope, firstAt (s .cubic 0) 0)
-asked {c} s (heldEnd q) = (firstAt (s .cubic (legs c - 1)) (c .leg (legs c - 1)), pos (s .denominator) *ℤ c .endSlope)
+abbrev asked : {c : Course} (f : Curve) {i : ℕ} {r : Row} → Seat 2 1 c i r → ℤ × ℤ
+asked {c} f (shared i p q) = (firstAt (f .cubic (prev c i)) (legBefore c i), firstAt (f .cubic i) 0)
+asked {c} f (freeStart q) = (secondAt (f .cubic 0) 0, pos 0)
+asked {c} f (freeEnd q) = (secondAt (f .cubic (legs c - 1)) (c .leg (legs c - 1)), pos 0)
+asked {c} f (heldStart q) = (pos (f .denominator) *ℤ c .startSlope, firstAt (f .cubic 0) 0)
+asked {c} f (heldEnd q) = (firstAt (f .cubic (legs c - 1)) (c .leg (legs c - 1)), pos (f .denominator) *ℤ c .endSlope)
 
 -- the row r at x, y, z, its right side taken m times, is off by a positive factor times a - b
 record Off (r : Row) (m : ℕ) (x y z a b : ℤ) : Type 0 where
@@ -84,7 +84,7 @@ free-off {a} {y} e m x z = record {
   off = lin 5 (λ m x y z a. a ≐ y ∷ [] ⊢ # 0 ⊗ x ⊕ # 1 ⊗ y ⊕ # 0 ⊗ z ≗ m ⊗ # 0 ⊕ # 1 ⊗ (a ⊖ # 0) with ⊝ # 1 ∷ []) tt (pos m) x y z a e;
 }
 
-module _ {c : Course} (bounds : InBounds c) {s : Curve} {x : ℕ → ℤ} (all : Legs c s x) where
+module _ {c : Course} (bounds : InBounds c) {f : Curve} {x : ℕ → ℤ} (all : Legs c f x) where
   first : 0 < legs c
   first = omega (arith, counts bounds)
 
@@ -92,17 +92,17 @@ module _ {c : Course} (bounds : InBounds c) {s : Curve} {x : ℕ → ℤ} (all :
   last = omega (arith, counts bounds)
 
   row-off : {i : ℕ} {r : Row} → i < c .points → (t : Seat 2 1 c i r)
-      → Off r (6 * s .denominator) (x (prev c i)) (x i) (x (next c i)) (asked s t .0) (asked s t .1)
+      → Off r (6 * f .denominator) (x (prev c i)) (x i) (x (next c i)) (asked f t .0) (asked f t .1)
   unfolding stepBefore stepAfter prev
-  row-off l (shared i f g) = inner-off (leg-before all i l f) (all .leg i g) (bounds .leg (prev c i) f .0) (bounds .leg i g .0)
+  row-off l (shared i p q) = inner-off (leg-before all i l p) (all .leg i q) (bounds .leg (prev c i) p .0) (bounds .leg i q .0)
   row-off l (freeStart q) = free-off (all .leg 0 first .secondStart) _ _ _
   row-off l (freeEnd q) = free-off (leg-before all (lastPoint c) l last .secondEnd) _ _ _
   row-off l (heldStart q) = held-start-off (all .leg 0 first) (bounds .leg 0 first .0) _ _
   row-off l (heldEnd q) = held-end-off (leg-before all (lastPoint c) l last) (bounds .leg (legs c - 1) last .0) _ _
 
 -- ---- both ways
-exact-agrees : {c : Course} {s : Curve} → Exact c s → {i : ℕ} {r : Row} (t : Seat 2 1 c i r) → asked s t .0 ≡ asked s t .1
-exact-agrees exact (shared i f g) = exact .firstAgrees i f g
+exact-agrees : {c : Course} {f : Curve} → Exact c f → {i : ℕ} {r : Row} (t : Seat 2 1 c i r) → asked f t .0 ≡ asked f t .1
+exact-agrees exact (shared i p q) = exact .firstAgrees i p q
 exact-agrees exact (freeStart q) = exact .freeStart q
 exact-agrees exact (freeEnd q) = exact .freeEnd q
 exact-agrees exact (heldStart q) = sym (exact .heldStart q)
@@ -110,25 +110,25 @@ exact-agrees exact (heldEnd q) = exact .heldEnd q
 
 pub rows-follow : RowsFollow
 unfolding rowsBy
-rows-follow c bounds s exact i l = let t = seat 2 1 bounds i l in holds (row-off bounds (exact-legs exact bounds) l t) (exact-agrees exact t)
+rows-follow c bounds f exact i l = let t = seat 2 1 bounds i l in holds (row-off bounds (exact-legs exact bounds) l t) (exact-agrees exact t)
 
 -- a curve that meets all waypoints and whose second derivatives solve the rows is exact
-pub exact-of-rows : {c : Course} → InBounds c → {s : Curve} {x : ℕ → ℤ} → 1 ≤ s .denominator → Legs c s x
-    → Solves (rows c) (6 * s .denominator) x → Exact c s
+pub exact-of-rows : {c : Course} → InBounds c → {f : Curve} {x : ℕ → ℤ} → 1 ≤ f .denominator → Legs c f x
+    → Solves (rows c) (6 * f .denominator) x → Exact c f
 unfolding rowsBy
-exact-of-rows {c} bounds {s} {x} D1 all solves = record {
+exact-of-rows {c} bounds {f} {x} D1 all solves = record {
   positive = D1;
   meetsStart = λ i l. all .leg i l .meetsStart;
   meetsEnd = λ i l. all .leg i l .meetsEnd;
-  firstAgrees = λ i f g. met (shared i f g);
-  secondAgrees = λ i f g. leg-before all i (omega (arith, counts bounds)) f .secondEnd ∙ sym (all .leg i g .secondStart);
+  firstAgrees = λ i p q. met (shared i p q);
+  secondAgrees = λ i p q. leg-before all i (omega (arith, counts bounds)) p .secondEnd ∙ sym (all .leg i q .secondStart);
   freeStart = λ q. met (freeStart q);
   freeEnd = λ q. met (freeEnd q);
   heldStart = λ q. sym (met (heldStart q));
   heldEnd = λ q. met (heldEnd q);
 }
   where
-    met : {i : ℕ} {r : Row} (t : Seat 2 1 c i r) → asked s t .0 ≡ asked s t .1
+    met : {i : ℕ} {r : Row} (t : Seat 2 1 c i r) → asked f t .0 ≡ asked f t .1
     met {i} t =
         let (l, e) = seat-row 2 1 bounds t in
-        agrees (row-off bounds all l t) (subst (λ r. rowSum r (x (prev c i)) (x i) (x (next c i)) ≡ pos (6 * s .denominator) *ℤ r .right) e (solves i l))
+        agrees (row-off bounds all l t) (subst (λ r. rowSum r (x (prev c i)) (x i) (x (next c i)) ≡ pos (6 * f .denominator) *ℤ r .right) e (solves i l))

@@ -9,6 +9,7 @@ use Rattle.ends.specs.Ends.{legCount, leastPoints}
 use Rattle.ends.specs.declared.EndKind.{EndKind}
 use Rattle.ends.specs.declared.EndKind.the-variants.{Free, Held, Closed}
 use Rattle.spline.specs.Spline.{Course, InBounds, legs, next, prev}
+use Rattle.spline.proofs.Tried as tried
 
 -- by a test of equality
 pub by-equal : (m n : ℕ) {A : Type 0} (x y : A) (P : A → Type 0) → (m ≡ n → P x) → (¬ (m ≡ n) → P y) → P (cond (eqb m n) x y)

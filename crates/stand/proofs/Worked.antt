@@ -1,7 +1,7 @@
 -- Course A's lines come out as in 01, by computing the definitions.
 use mathlib.Core.Path.{refl}
 use Rattle.rounding.specs.Rounded.{floor, rounded}
-use Rattle.systems.specs.Passes.{target, renewed, step, sweep, pass, passes}
+use Rattle.systems.specs.Passes.{target, renewed, turn, sweep, pass, passes}
 use Rattle.sheet.specs.Bytes.{be16, be32, signed32, anyBelow, sumBelow}
 use Rattle.sheet.specs.Reading.{readBy}
 use Rattle.spline.specs.Spline.{next, prev, stepAfter, stepBefore, innerRow, freeRow, heldStartRow, heldEndRow, along, rowOf, rowsBy}
@@ -15,5 +15,5 @@ use Rattle.stand.specs.Output.{lineAt, linesFrom}
 use Rattle.stand.specs.Theorems.{CourseA}
 
 pub course-a : CourseA
-unfolding floor rounded target renewed step sweep pass passes be16 be32 signed32 anyBelow sumBelow readBy next prev stepAfter stepBefore innerRow freeRow heldStartRow heldEndRow along rowOf rowsBy numerator position course allBends layOut laidOut walk spotAt bendOutside placeOn placeAtTick decimal signed line lineAt linesFrom
+unfolding floor rounded target renewed turn sweep pass passes be16 be32 signed32 anyBelow sumBelow readBy next prev stepAfter stepBefore innerRow freeRow heldStartRow heldEndRow along rowOf rowsBy numerator position course allBends layOut laidOut walk spotAt bendOutside placeOn placeAtTick decimal signed line lineAt linesFrom
 course-a = refl

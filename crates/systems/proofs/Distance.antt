@@ -1,5 +1,5 @@
--- DESIGN 3.3, passes: how near they come to the exact solution (01, Laying out: "each Z is within 9/8 of 65,536 times the exact bend"), and how large
--- their numbers are. A new number fulfils its row but for what rounding adds, at most half the middle factor; the rest is arithmetic of one row.
+-- How near passes come to an exact solution (L6), and how large their numbers are. A new number fulfils its row but for what rounding adds, at most half
+-- the middle factor; the rest is arithmetic of one row.
 use mathlib.Core.Path.{_≡_, ap}
 use mathlib.Core.List.{List, [], _∷_}
 use mathlib.Core.Bool.{true, false}
@@ -33,7 +33,7 @@ renewed-row R c zs i h =
     )
 
 -- ---- sizes, with no exact solution
--- the arithmetic of a step: sizes p, q of the neighbours, y of the new number, to which rounding adds s. What is at most Q in size rounds to at most Q.
+-- the arithmetic of a turn: sizes p, q of the neighbours, y of the new number, to which rounding adds s. What is at most Q in size rounds to at most Q.
 size-kept : (k : ℕ) (w : Row) (p y q r s Q : ℕ) → 2 ≤ k → 1 ≤ w .middle → k * (w .before + w .after) ≤ w .middle
     → w .middle * y ≤ w .before * p + w .after * q + (r + s) → k * r ≤ (k - 1) * w .middle * Q → 2 * s ≤ w .middle → p ≤ Q → q ≤ Q → y ≤ Q
 size-kept zero w p y q r s Q two some outer row small rounds hp hq = absurd (omega arith)
@@ -80,7 +80,7 @@ pub passes-bounded : PassesBounded
 passes-bounded = numbers-bounded
 
 -- ---- the distance from an exact solution
--- the arithmetic of a step: distances p, q of the neighbours, e of the new number, to which rounding adds s; P is 2^m
+-- the arithmetic of a turn: distances p, q of the neighbours, e of the new number, to which rounding adds s; P is 2^m
 distance-halved : (w : Row) (P D Q p e q s : ℕ) → 1 ≤ w .middle → 2 * (w .before + w .after) ≤ w .middle
     → w .middle * e ≤ w .before * p + w .after * q + D * s → 2 * s ≤ w .middle → P * p ≤ D * (P + Q) → P * q ≤ D * (P + Q) → 2 * P * e ≤ D * (2 * P + Q)
 distance-halved w P D Q p e q s some outer row rounds hp hq = le-of-mul-le-mul-left {k = w .middle}
@@ -102,7 +102,7 @@ module _ (k : ℕ) (R : Rows) (c Q : ℕ) (zs : List ℤ) (g : Passing k R c Q z
   Near : ℕ → ℕ → ℤ → Type 0
   Near m j z = (2 ^ m * distance j z ≤ D * (2 ^ m + Q)) × (R .row j .present ≡ false → z ≡ pos 0)
 
-  -- DESIGN's e(i): the distances fulfil the row with D times the rounding on the right
+  -- the distances fulfil the row in sizes, with D times the rounding on the right
   distance-row : (i : ℕ) → i < R .size → (p z q s : ℤ) → rowSum (R .row i) p z q ≡ pos c *ℤ R .row i .right +ℤ s
       → R .row i .middle * distance i z ≤ R .row i .before * distance (R .prev i) p + R .row i .after * distance (R .next i) q + D * natAbs s
   unfolding distance
@@ -133,12 +133,12 @@ module _ (k : ℕ) (R : Rows) (c Q : ℕ) (zs : List ℤ) (g : Passing k R c Q z
     λ p. g .zeros j h,
   )
 
-  -- "the bound m+1 implies the bound m"
+  -- what is near after m + 1 passes was near enough after m
   near-weaker : (m j : ℕ) (z : ℤ) → Near (suc m) j z → Near m j z
   unfolding Near
   near-weaker m j z (h, p) = (omega (arith, rw (pow-succ' 2 m) at h), p)
 
-  -- "2*|e(i)| <= B + D (only dominance by 2 is used)"
+  -- a turn halves the distance but for the rounding; of the dominance only the factor 2 is used
   near-new : (m : ℕ) (ys : List ℤ) → Each R (Near m) ys → (i : ℕ) → i < R .size → R .row i .present ≡ true → Near (suc m) i (renewed R c ys i)
   unfolding Near
   near-new m ys l i h present =

@@ -1,5 +1,5 @@
--- DESIGN 3.1, existence "for dense matrices A by induction on n, eliminating the last unknown": if in each row the diagonal is larger than the sizes of
--- all other entries together, then there are whole numbers and a denominator that solve all rows.
+-- Dense systems, for Existence: if in each row the diagonal is larger than the sizes of all other entries together, then whole numbers over a denominator
+-- solve all rows. The last unknown is eliminated; what is left is dominant again, with one unknown less.
 use mathlib.Core.Path.{_≡_, refl, sym, _∙_}
 use mathlib.Core.Logic.{_≢_}
 use mathlib.Core.List.{[], _∷_}
@@ -15,7 +15,7 @@ use Rattle.integers.proofs.Order.{by-test, le-or-lt, abs-mul, abs-upper, nonneg
 use Rattle.integers.proofs.Linear.{_≐_, _≼_, _≺_, ∣_∣≼_, _⊢_by_, _⊢_≗_with_, hyp, low, nat, _⊞_, _⊠_, lin}
 use Rattle.integers.proofs.Sums.{sum, sum-ext, sum-add, sum-sub, sum-mul, sum-le, sum-zero}
 
--- DESIGN's t(i,j): -A(i,i) on the diagonal, |A(i,j)| elsewhere
+-- an entry's weight in its row: turned in sign on the diagonal, its size elsewhere
 unfoldable pub weight : (ℕ → ℕ → ℤ) → ℕ → ℕ → ℤ
 weight A i j = cond (eqb j i) (negℤ (A i j)) (pos (natAbs (A i j)))
 
@@ -41,7 +41,7 @@ reduced n A i j = A n n *ℤ A i j -ℤ A i n *ℤ A n j
 abbrev reducedRight : ℕ → (ℕ → ℕ → ℤ) → (ℕ → ℤ) → ℕ → ℤ
 reducedRight n A b i = A n n *ℤ b i -ℤ A i n *ℤ b n
 
--- "Term by term, at j = i too, t'(i,j) <= p*t(i,j) + |A(i,n)|*|A(n,j)|": on the diagonal (`true`) and elsewhere
+-- what an elimination does to one weight, on the diagonal (`true`) and elsewhere
 weight-reduced : (n : ℕ) (A : ℕ → ℕ → ℤ) (i j : ℕ) → pos 0 ≤ℤ A n n
     → weight (reduced n A) i j ≤ℤ (A n n *ℤ weight A i j +ℤ pos (natAbs (A i n)) *ℤ pos (natAbs (A n j)))
 unfolding weight
@@ -86,7 +86,7 @@ module _ (n : ℕ) (A : ℕ → ℕ → ℤ) (strict : Strict (suc n) A) where
   unfolding sum
   row-strict i h = rw (weight-other A i n (omega arith)) at (strict i (omega arith))
 
-  -- ".. and the sums give T'(i) <= p*T(i) + |A(i,n)|*T(n) < 0"
+  -- and to a row's weights together
   row-reduced : (i : ℕ) → sum (weight (reduced n A) i) n ≤ℤ (A n n *ℤ sum (weight A i) n +ℤ pos (natAbs (A i n)) *ℤ last)
   unfolding last
   row-reduced i =
@@ -112,7 +112,7 @@ pub record Dense (n : ℕ) (A : ℕ → ℕ → ℤ) (b : ℕ → ℤ) : Type 0 
   pub unknown : ℕ → ℤ
   pub solves : (i : ℕ) → i < n → sum (λ j. A i j *ℤ unknown j) n ≡ pos denominator *ℤ b i
 
--- "From D', x' of the reduced system: x(j) = p*x'(j) for j < n, x(n) = D'*b(n) - sum A(n,j)*x'(j), D = p*D'"; here x and D are x' and D', q is p
+-- a solution x over D of what is left, taken q times (q is the pivot), together with what the last row says of the last unknown, solves all over q × D
 module _ (n : ℕ) (A : ℕ → ℕ → ℤ) (b x : ℕ → ℤ) (D q : ℕ) (pivot : A n n ≡ pos q)
     (solves : (i : ℕ) → i < n → sum (λ j. reduced n A i j *ℤ x j) n ≡ pos D *ℤ reducedRight n A b i) where
   partial : ℕ → ℤ

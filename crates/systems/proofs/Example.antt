@@ -1,5 +1,7 @@
--- A worked system, computed: x0 = 0; x0 + 4 x1 + x2 = 7; x1 + 4 x2 + x3 = -9; x3 = 0, the outer two without a row. It has all that the theorems ask for.
-use mathlib.Core.Path.{_≡_, refl}
+-- A worked system, computed: x0 = 0; x0 + 4 x1 + x2 = 7; x1 + 4 x2 + x3 = -9; x3 = 0, the outer two without a row. It has all that the theorems ask for, and
+-- theorems are tried here before they are proved: what they would say of the system, or of a smaller one, is computed. Nothing rests on this file; Size and
+-- Lists name it so that it is checked first.
+use mathlib.Core.Path.{_≡_, refl, ap}
 use mathlib.Core.List.{List, [], _∷_}
 use mathlib.Core.Bool.{true, false, cond}
 use Prim.Native.Nat.{ℕ, zero, suc, _+_, _*_, _-_, _≤_, _<_}
@@ -7,13 +9,13 @@ use native.Mathlib.Omega.{arith}
 use lib.Dec.{lit≤}
 use lib.ListN.{replicate, getD-replicate}
 use lib.IntN.{ℤ, pos, negsuc, natAbs, _-ℤ_, _*ℤ_}
+use Rattle.integers.proofs.Ring.{_⊕_, _⊗_, ⊝_, #_}
+use Rattle.integers.proofs.Linear.{_≐_, _⊢_≗_with_, lin}
+use Rattle.integers.proofs.Tried.{Tried, tried}
 use Rattle.rounding.specs.Rounded.{floor, rounded}
 use Rattle.systems.specs.Rows.{Row, rowSum, Rows, Dominant, Solves, Solution}
-use Rattle.systems.specs.Passes.{at, target, renewed, step, sweep, pass, passes}
-use Rattle.systems.specs.Theorems.{Passing}
-use Rattle.systems.proofs.Size.{unique}
-use Rattle.systems.proofs.Existence.{solvable}
-use Rattle.systems.proofs.Distance.{forty-passes-near}
+use Rattle.systems.specs.Passes.{at, target, renewed, turn, sweep, pass, passes}
+use Rattle.systems.specs.Theorems.{Solvable, Unique, Passing, FortyPassesNear, PassesBounded, EarlyEnd}
 
 -- a fact of each index below 4
 below4 : (P : ℕ → Type 0) → P 0 → P 1 → P 2 → P 3 → (i : ℕ) → i < 4 → P i
@@ -72,14 +74,68 @@ exact (suc (suc (suc i))) = pos 0
 solves : Solves rows 15 exact
 solves = below4 (λ i. rowSum (row i) (exact (rows .prev i)) (exact i) (exact (rows .next i)) ≡ pos 15 *ℤ row i .right) refl refl refl refl
 
--- which `solvable` finds too, over whatever denominator
-found : (s : Solution rows) × ((i : ℕ) → i < 4 → pos 15 *ℤ s .unknown i ≡ pos (s .denominator) *ℤ exact i)
-found = let s = solvable 2 rows dominant in (s, unique 2 rows dominant (s .denominator) 15 (s .unknown) exact (s .solves) solves)
-
 -- 65,536 times the exact numbers are 161,655.47 and -187,869.87
 computed : passes rows 65536 40 zeros ≡ pos 0 ∷ pos 161656 ∷ negsuc 187869 ∷ pos 0 ∷ []
-unfolding floor rounded target renewed step sweep pass passes
+unfolding floor rounded target renewed turn sweep pass passes
 computed = refl
 
-near-exact : (i : ℕ) → i < 4 → 8 * natAbs (pos 15 *ℤ at (passes rows 65536 40 zeros) i -ℤ pos 65536 *ℤ exact i) ≤ 9 * 15
-near-exact = forty-passes-near 2 rows 65536 327680 zeros passing (lit≤ tt) 15 exact solves
+-- the first of them is 8/15 away: within nine eighths, not within four
+near-tried : Tried
+unfolding floor rounded target renewed turn sweep pass passes
+near-tried = tried (λ (near : FortyPassesNear). near 2 rows 65536 327680 zeros passing (lit≤ tt) 15 exact solves 1 (lit≤ tt)) (lit≤ tt)
+
+-- the solution over 30 has twice the numbers: 30 × 37 = 15 × 74
+unique-tried : Tried
+unique-tried = tried (λ (same : Unique). same 2 rows dominant 15 30 exact doubled solves (below4 (λ i. Row30 i) refl refl refl refl) 1 (lit≤ tt)) refl
+  where
+    doubled : ℕ → ℤ
+    doubled i = pos 2 *ℤ exact i
+
+    Row30 : ℕ → Type 0
+    Row30 i = rowSum (row i) (doubled (rows .prev i)) (doubled i) (doubled (rows .next i)) ≡ pos 30 *ℤ row i .right
+
+-- passes settle, they do not go back: what 40 of them give is not what none gives
+early-tried : Tried
+early-tried = tried (λ (early : EarlyEnd). early rows 65536 zeros 40 0) (λ later settled. absurd (omega arith))
+
+-- ---- 2 x = 1, passed over at the scale 1: a half is rounded up, and the bound Q = 1 is reached
+abbrev half : Rows
+half = record { size = 1; prev = λ i. 0; next = λ i. 0; row = λ i. record { present = true; before = 0; middle = 2; after = 0; right = pos 1 } }
+
+half-passing : Passing 2 half 1 1 (pos 0 ∷ [])
+half-passing = record {
+  dominant = record {
+    two = lit≤ tt;
+    prev-fits = λ i h. lit≤ tt;
+    next-fits = λ i h. lit≤ tt;
+    outer = λ i h. lit≤ tt;
+    some = λ i h. lit≤ tt;
+    absent = λ i h e. (cc, cc, cc);
+  };
+  small = λ i h. lit≤ tt;
+  room = lit≤ tt;
+  zeros = λ i h. getD-replicate 1 i (pos 0) (pos 0) h;
+}
+
+bound-tried : Tried
+unfolding floor rounded target renewed turn sweep pass passes
+bound-tried = tried (λ (bounded : PassesBounded). bounded 2 half 1 1 (pos 0 ∷ []) half-passing 1 0 0 (lit≤ tt) (lit≤ tt)) (lit≤ tt)
+
+-- ---- x0 + x1 = 1 and x1 + x0 = 0: dominant by 1, and without solution. So 1 is not enough.
+abbrev singular : Rows
+singular = record {
+  size = 2;
+  prev = λ i. 1 - i;
+  next = λ i. i;
+  row = λ i. record { present = true; before = 1; middle = 1; after = 0; right = pos (1 - i) };
+}
+
+unsolved : ¬ Solution singular
+unsolved s =
+    let none : pos (s .denominator) ≡ pos 0 = lin 3
+    (λ D x y. # 1 ⊗ y ⊕ # 1 ⊗ x ⊕ # 0 ⊗ x ≐ D ⊗ # 1 ∷ # 1 ⊗ x ⊕ # 1 ⊗ y ⊕ # 0 ⊗ y ≐ D ⊗ # 0 ∷ [] ⊢ D ≗ # 0 with ⊝ # 1 ∷ # 1 ∷ []) tt
+    (pos (s .denominator)) (s .unknown 0) (s .unknown 1) (s .solves 0 (lit≤ tt)) (s .solves 1 (lit≤ tt)) in
+    omega (arith, ap natAbs none, s .positive)
+
+one-tried : Tried
+one-tried = tried {Fact = ¬ Dominant 1 singular} (λ (solvable : Solvable) dominant. unsolved (solvable 1 singular dominant)) (λ dominant. omega (arith, dominant .two))

@@ -1,6 +1,5 @@
--- DESIGN 3.1: "For every dominant system there are D >= 1 and whole x with row sums D*R(i)."
--- "A row system is the dense matrix before*[j=prev] + middle*[j=i] + after*[j=next]", which is strictly dominant; sums of such picks are one lemma, and no
--- case is needed for indices that coincide.
+-- A dominant row system has a solution: it is a dense system (Elimination) whose matrix has the three factors at the three indices, added where indices
+-- coincide. Sums of such picks are one lemma, so that nothing has to be said about which indices do.
 use mathlib.Core.Path.{_≡_, refl, sym, _∙_}
 use mathlib.Core.Logic.{_≢_}
 use mathlib.Core.List.{[], _∷_}

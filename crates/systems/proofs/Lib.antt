@@ -1,8 +1,8 @@
--- Why the theorems about row systems hold.
+-- Why the theorems about row systems hold. The worked system comes first: a false statement fails there, by its numbers.
+pub mod Example
 pub mod Size
 pub mod Elimination
 pub mod Existence
 pub mod Lists
 pub mod Invariant
 pub mod Distance
-pub mod Example

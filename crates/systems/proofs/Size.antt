@@ -1,5 +1,5 @@
--- DESIGN 3.1, the size lemma: "If middle*|y(i)| <= before*|y(prev)| + after*|y(next)| + r(i) for all i and k*r(i) <= (k-1)*middle*B, then every |y(i)| <= B."
--- From it: the bound on a solution, and that two solutions are the same but for their denominators.
+-- The size lemma: in dominant rows the right sides bound the unknowns, because the row of the largest unknown does. From it: the bound on a solution, and
+-- that two solutions are the same but for their denominators.
 use mathlib.Core.Path.{_≡_, refl, ap}
 use mathlib.Core.List.{[], _∷_}
 use Prim.Native.Nat.{ℕ, zero, suc, _+_, _*_, _-_, _≤_, _<_}
@@ -12,6 +12,7 @@ use Rattle.integers.proofs.Order.{abs-add, abs-sub, abs-mul, abs-zero}
 use Rattle.integers.proofs.Extremes.{Extreme, largest}
 use Rattle.systems.specs.Rows.{Row, rowSum, Rows, Dominant, Solves}
 use Rattle.systems.specs.Theorems.{SolutionBounded, Unique}
+use Rattle.systems.proofs.Example as example
 
 -- a row in sizes: the unknown's part is at most the neighbours' parts and the right side together
 pub row-sizes : (w : Row) (p x q s : ℤ) → rowSum w p x q ≡ s → w .middle * natAbs x ≤ w .before * natAbs p + w .after * natAbs q + natAbs s
@@ -37,7 +38,7 @@ difference-sizes w u v p x q p′ x′ q′ r r′ s e f g = row-sizes w (u *ℤ
     ⊢ b ⊗ (u ⊗ p ⊖ v ⊗ p′) ⊕ m ⊗ (u ⊗ x ⊖ v ⊗ x′) ⊕ a ⊗ (u ⊗ q ⊖ v ⊗ q′) ≗ s with u ∷ ⊝ v ∷ # 1 ∷ []) tt
     (pos (w .before)) (pos (w .middle)) (pos (w .after)) u v p x q p′ x′ q′ r r′ s e f g)
 
--- the arithmetic of a row at the largest size y; p, q are the sizes at its neighbours: (k-1)*middle*y <= k*r <= (k-1)*middle*B
+-- the arithmetic of a row at the largest size y; p, q are the sizes at its neighbours: (k - 1) × middle × y is at most k × r
 largest-bounded : (k : ℕ) (w : Row) (p y q r B : ℕ) → 2 ≤ k → 1 ≤ w .middle → k * (w .before + w .after) ≤ w .middle
     → w .middle * y ≤ w .before * p + w .after * q + r → k * r ≤ (k - 1) * w .middle * B → p ≤ y → q ≤ y → y ≤ B
 largest-bounded zero w p y q r B two some outer row small hp hq = absurd (omega arith)
@@ -70,7 +71,7 @@ sizes-bounded k R d v r B rows small i h = go (R .size) refl
     go zero e = absurd (omega arith)
     go (suc n) e = from n e (largest v n)
 
--- DESIGN 3.1: the size lemma at a solution's own rows
+-- the size lemma at a solution's own rows
 pub solution-bounded : SolutionBounded
 solution-bounded k R d D x B s small = sizes-bounded k R d (λ i. natAbs (x i)) (λ i. D * natAbs (R .row i .right)) B
     (λ i h. omega (
@@ -80,7 +81,7 @@ solution-bounded k R d D x B s small = sizes-bounded k R d (λ i. natAbs (x i)) 
     ))
     small
 
--- DESIGN 3.1: "With r = 0 and B = 0 it is uniqueness": the difference of two solutions, multiplied so that their right sides agree, is one with right sides 0
+-- the difference of two solutions, multiplied so that their right sides agree, solves the rows with right sides 0: the size lemma with B = 0
 module _ (k : ℕ) (R : Rows) (d : Dominant k R) (D E : ℕ) (x y : ℕ → ℤ) (s : Solves R D x) (t : Solves R E y) where
   cross : (a b : ℕ) → a * D ≡ b * E → (i : ℕ) → i < R .size → pos a *ℤ x i ≡ pos b *ℤ y i
   cross a b e i h = eq-of-sub (pos a *ℤ x i) (pos b *ℤ y i) (abs-zero (pos a *ℤ x i -ℤ pos b *ℤ y i) (none i h))

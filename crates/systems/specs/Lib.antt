@@ -1,4 +1,4 @@
--- Row systems: what they are, what passes over them do, and the theorems about both.
+-- Row systems: what they are, what passes over them do, and what is proved of both.
 pub mod Rows
 pub mod Passes
 pub mod Theorems

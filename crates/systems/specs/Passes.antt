@@ -1,4 +1,4 @@
--- Passes in place over a list of whole numbers (01, Laying out bend numbers). They compute: the station's laying out is `passes` at a course's rows.
+-- Passes in place over a list of whole numbers (L2). They compute: a course's bend numbers are `passes` over its rows, crate spline.
 use mathlib.Core.Bool.{cond}
 use mathlib.Core.List.{List}
 use Prim.Native.Nat.{ℕ, zero, suc}
@@ -11,24 +11,24 @@ use Rattle.systems.specs.Rows.{Rows}
 abbrev pub at : List ℤ → ℕ → ℤ
 at zs i = getD zs i (pos 0)
 
--- 01: "65,536 × right side - the outer products, with the Z as they are now", at a scale c in place of 65,536
+-- L2, what is divided: c (65,536 at the station) times the right side, less the two neighbours' present numbers times their factors
 unfoldable pub target : Rows → ℕ → List ℤ → ℕ → ℤ
 target R c zs i = pos c *ℤ R .row i .right -ℤ pos (R .row i .before) *ℤ at zs (R .prev i) -ℤ pos (R .row i .after) *ℤ at zs (R .next i)
 
--- 01: ".. / the middle factor, rounded to the nearest whole number, a half going up"
+-- L2, L4: the new number at i, by the middle factor
 unfoldable pub renewed : Rows → ℕ → List ℤ → ℕ → ℤ
 renewed R c zs i = rounded (target R c zs i) (R .row i .middle)
 
--- 01: "each waypoint that has a row gets" its new number
-unfoldable pub step : Rows → ℕ → List ℤ → ℕ → List ℤ
-step R c zs i = cond (R .row i .present) (set zs i (renewed R c zs i)) zs
+-- a turn: the new number is put at i, where there is a row
+unfoldable pub turn : Rows → ℕ → List ℤ → ℕ → List ℤ
+turn R c zs i = cond (R .row i .present) (set zs i (renewed R c zs i)) zs
 
--- the steps at 0, .., i - 1: a pass as far as i
+-- a pass as far as i: the turns at 0, .., i - 1
 unfoldable pub sweep : Rows → ℕ → ℕ → List ℤ → List ℤ
 sweep R c zero zs = zs
-sweep R c (suc i) zs = step R c (sweep R c i zs) i
+sweep R c (suc i) zs = turn R c (sweep R c i zs) i
 
--- 01: "A pass goes from the first waypoint to the last, in place"
+-- L2: a whole pass
 unfoldable pub pass : Rows → ℕ → List ℤ → List ℤ
 pass R c zs = sweep R c (R .size) zs
 

@@ -1,11 +1,11 @@
--- Row systems (DESIGN 3.1): each row names an unknown and its two neighbours. 01's rows of every end kind are such rows.
+-- Row systems: each row names an unknown and its two neighbours. The rows of a course (R2 to R5) are such rows, for all kinds of ends.
 use mathlib.Core.Path.{_≡_}
 use mathlib.Core.Bool.{Bool, false}
-use Prim.Native.Nat.{ℕ, _+_, _*_, _≤_, _<_}
+use Prim.Native.Nat.{ℕ, _+_, _*_, _/_, _≤_, _<_}
 use lib.IntN.{ℤ, pos, _+ℤ_, _*ℤ_}
 
--- before × x(prev) + middle × x(i) + after × x(next) = right. The middle factor is 01's middle factor, before and after are the outer ones.
--- An unknown that has no row (01, a free end) has `present` false and stands as the row x(i) = 0.
+-- before × x(prev) + middle × x(i) + after × x(next) = right. `before` and `after` are the outer factors.
+-- An unknown without a row (R3, a free end) has `present` false and stands as the row x(i) = 0.
 pub record Row : Type 0 where
   pub present : Bool
   pub before : ℕ
@@ -16,6 +16,10 @@ pub record Row : Type 0 where
 -- the left side of a row, at the values a, b, z of the neighbour before, the unknown itself and the neighbour after
 abbrev pub rowSum : Row → ℤ → ℤ → ℤ → ℤ
 rowSum r a b z = pos (r .before) *ℤ a +ℤ pos (r .middle) *ℤ b +ℤ pos (r .after) *ℤ z
+
+-- R6: half the middle factor. That a course's outer factors add up to it is proved (RowGap, crate spline).
+abbrev pub gap : Row → ℕ
+gap r = r .middle / 2
 
 -- `size` unknowns, each with its neighbours and its row
 pub record Rows : Type 0 where

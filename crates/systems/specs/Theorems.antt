@@ -1,4 +1,4 @@
--- The theorems about row systems, each as a statement that can be read without its proof. The proofs have the same names in proofs/, in lower case.
+-- What is proved of row systems, each theorem as a statement that can be read without its proof; proofs/ has it under the same name in lower case.
 -- k >= 2 is the dominance factor (2 for the cubic), c the scale of the passes (65,536), Q a bound on c times the exact solution.
 use mathlib.Core.Path.{_≡_}
 use mathlib.Core.List.{List}
@@ -8,15 +8,15 @@ use lib.IntN.{ℤ, pos, natAbs, _-ℤ_, _*ℤ_}
 use Rattle.systems.specs.Rows.{Rows, Dominant, Solves, Solution}
 use Rattle.systems.specs.Passes.{at, sweep, pass, passes}
 
--- DESIGN 3.1: "For every dominant system there are D >= 1 and whole x with row sums D*R(i)."
+-- a dominant system has a solution in whole numbers over a denominator
 abbrev pub Solvable : Type 0
 Solvable = (k : ℕ) (R : Rows) → Dominant k R → Solution R
 
--- DESIGN 3.1, uniqueness: two solutions, over whatever denominators, are the same numbers (cross multiplied).
+-- two solutions, over whatever denominators, are the same numbers (cross multiplied)
 abbrev pub Unique : Type 0
 Unique = (k : ℕ) (R : Rows) → Dominant k R → (D E : ℕ) (x y : ℕ → ℤ) → Solves R D x → Solves R E y → (i : ℕ) → i < R .size → pos E *ℤ x i ≡ pos D *ℤ y i
 
--- DESIGN 3.1, the bound on a solution: where k times a right side is at most k - 1 times the middle factor times B, no unknown is larger than B.
+-- the bound on a solution: where k times a right side is at most k - 1 times the middle factor times B, no unknown is larger than B
 abbrev pub SolutionBounded : Type 0
 SolutionBounded = (k : ℕ) (R : Rows) → Dominant k R → (D : ℕ) (x : ℕ → ℤ) (B : ℕ) → Solves R D x
     → ((i : ℕ) → i < R .size → k * (D * natAbs (R .row i .right)) ≤ (k - 1) * R .row i .middle * B)
@@ -29,12 +29,12 @@ pub record Passing (k : ℕ) (R : Rows) (c Q : ℕ) (zs : List ℤ) : Type 0 whe
   pub room : R .size ≤ length zs
   pub zeros : (i : ℕ) → i < R .size → at zs i ≡ pos 0
 
--- DESIGN 3.3: after m passes from zeros 2^m × |D×Z - T| <= D×(2^m + Q), T being c times any exact solution over D.
+-- after m passes from zeros a number Z is at most 1 + Q / 2^m from c times any exact solution x over D
 abbrev pub PassesNear : Type 0
 PassesNear = (k : ℕ) (R : Rows) (c Q : ℕ) (zs : List ℤ) → Passing k R c Q zs → (D : ℕ) (x : ℕ → ℤ) → Solves R D x
     → (m i : ℕ) → i < R .size → 2 ^ m * natAbs (pos D *ℤ at (passes R c m zs) i -ℤ pos c *ℤ x i) ≤ D * (2 ^ m + Q)
 
--- 01, Laying out: "each Z is within 9/8 of 65,536 times the exact bend": after 40 passes, where 8 × Q is at most 2^40.
+-- L6, for every dominant system: nine eighths after 40 passes, where 8 × Q is at most 2^40
 abbrev pub FortyPassesNear : Type 0
 FortyPassesNear = (k : ℕ) (R : Rows) (c Q : ℕ) (zs : List ℤ) → Passing k R c Q zs → 8 * Q ≤ 2 ^ 40 → (D : ℕ) (x : ℕ → ℤ) → Solves R D x
     → (i : ℕ) → i < R .size → 8 * natAbs (pos D *ℤ at (passes R c 40 zs) i -ℤ pos c *ℤ x i) ≤ 9 * D
