@@ -154,7 +154,7 @@ unevenWorked = worked-by (omega arith) ((tt, (refl, refl, λ a. absurd (omega ar
 
 -- ---- W5
 -- 3uu - uuu / 2
-abbrev heldCurve : Curve
+abbrev pub heldCurve : Curve
 heldCurve = curve 2 (cubic (pos 0) (pos 0) (pos 6) (negsuc 0) ∷ [])
 
 heldWorked : Worked heldLeg heldCurve 1 (pos 1 ∷ negsuc 0 ∷ []) (pos 65_536 ∷ negsuc 65_535 ∷ [])

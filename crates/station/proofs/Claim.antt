@@ -1,4 +1,4 @@
--- Demand 3, proved. One axis is the spline crate's; here it meets the sheet, the list and the tests.
+-- Demand 3 (group C), proved. One axis is the spline crate's; here it meets the sheet, the list and the tests.
 use mathlib.Core.Path.{_≡_, refl, _∙_, ap, subst⁻¹}
 use mathlib.Core.Bool.{Bool, true, false, _&&_}
 use mathlib.Core.List.{List}
@@ -93,10 +93,10 @@ module _ (s : List ℕ) (accepted : Accepted s) where
       unfolding placeOn
       place-is u axis k = λ j. position (leg s i) u (waypoint s axis i) (waypoint s axis (endOf s i)) (own-bend s list own i starts axis k j) (own-bend s list own (endOf s i) ends axis k j)
 
-      near : (u : ℕ) → u ≤ leg s i → (axis : ℕ) → axis < 3 → (e : Curve) → Exact (course s axis) e → Near (e .denominator) (valueAt (e .cubic i) u) (placeOn s list (runner i u) axis)
+      near : (u : ℕ) → u ≤ leg s i → (axis : ℕ) → axis < 3 → (f : Curve) → Exact (course s axis) f → Near (f .denominator) (valueAt (f .cubic i) u) (placeOn s list (runner i u) axis)
       unfolding course spline.legs next
-      near u h axis k e exact = subst⁻¹ (λ (x : ℤ). Near (e .denominator) (valueAt (e .cubic i) u) x) (place-is u axis k)
-          (position-near (course s axis) (course-in-bounds s accepted axis k) e exact i u l h)
+      near u h axis k f exact = subst⁻¹ (λ (x : ℤ). Near (f .denominator) (valueAt (f .cubic i) u) x) (place-is u axis k)
+          (position-near (course s axis) (course-in-bounds s accepted axis k) f exact i u l h)
 
     answered : (r : Runner) → r .leg < legs s → adrift s r ≡ false → (answer : Told)
         → answer ≡ guard (bendOutside s list (r .leg)) Bend (placed s list r) → Answered s list r answer
@@ -119,7 +119,7 @@ module _ (s : List ℕ) (accepted : Accepted s) where
   open-tick : isOpen (kind s) ≡ true → (t : ℕ) → t ≤ ticks s → (past s t ≡ false) × (adrift s (spotAt s t) ≡ false)
   open-tick o t h = (rw (o, le-ltb (ticks s) t h), tick-stands s accepted t .0 o h .fits)
 
-  -- the ticks that 01 names
+  -- the course's ticks (C6), by the kind of ends
   answerable : (k : EndKind) → kind s ≡ k → (t : ℕ) → Answers k (ticks s) t → (past s t ≡ false) × (adrift s (spotAt s t) ≡ false)
   answerable Free e t h = open-tick (ap isOpen e) t (omega arith)
   answerable Held e t h = open-tick (ap isOpen e) t (omega arith)

@@ -1,4 +1,5 @@
--- The station's own bend numbers, read out of a lent list: at axis × N + i stands the number that the passes leave at the waypoint i of that axis.
+-- The station's own bend numbers (C1): a laying out leaves them, and at axis × N + i of a list that has them stands the number that the passes leave at the
+-- waypoint i of that axis (L5).
 use mathlib.Core.Path.{_≡_, refl, sym, _∙_, ap}
 use mathlib.Core.List.{List, _++_}
 use Prim.Native.Nat.{ℕ, zero, suc, _+_, _*_, _≤_, _<_}
@@ -13,9 +14,14 @@ use Rattle.systems.proofs.Lists.{length-passes}
 use Rattle.spline.specs.Spline.{Course, rows, bends}
 use Rattle.layout.specs.Course.{course}
 use Rattle.layout.specs.Layout.{allBends}
-use Rattle.layout.proofs.Outcomes.{done-list}
+use Rattle.layout.proofs.Outcomes.{done-answer, done-list}
 use Rattle.place.specs.Places.{bendOf}
-use Rattle.station.specs.Claim.{Own}
+use Rattle.station.specs.Claim.{Own, OwnLaid}
+use Rattle.station.proofs.Tried as tried
+
+-- the laying out itself is the one that C1 asks for
+pub own-laid : OwnLaid
+own-laid s accepted list long = record { lent = list; not-refused = done-answer s (length list) accepted long; holds = refl }
 
 -- what holds of 0, 1 and 2 holds of every axis
 pub each-axis : (P : ℕ → Type 0) → P 0 → P 1 → P 2 → (axis : ℕ) → axis < 3 → P axis

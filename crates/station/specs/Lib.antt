@@ -1,1 +1,2 @@
+-- Demand 3.
 pub mod Claim
