@@ -1,1 +1,3 @@
+-- Why the worked courses come out right.
 pub mod Starred
+pub mod Theorems

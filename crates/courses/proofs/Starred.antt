@@ -1,4 +1,4 @@
--- The starred courses come out right, by computing the definitions.
+-- W1 to W9 come out right, by computing the definitions.
 use mathlib.Core.Path.{refl}
 use Rattle.rounding.specs.Rounded.{floor, rounded}
 use Rattle.systems.specs.Passes.{target, renewed, turn, sweep, pass, passes}

@@ -1,2 +1,4 @@
+-- Worked courses (group W).
 pub mod Sheets
 pub mod Starred
+pub mod Theorems

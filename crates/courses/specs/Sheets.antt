@@ -1,4 +1,4 @@
--- A sheet's bytes from its fields, to write worked courses readably. Its reading is tested by the courses themselves.
+-- A sheet's bytes from its fields (group S), to write worked courses readably. The courses themselves show that it is read as written.
 use mathlib.Core.List.{List, [], _∷_, _++_}
 use Prim.Native.Nat.{ℕ, suc, _+_, _*_, _-_, _/_, _%_}
 use lib.IntN.{ℤ, pos, negsuc}
@@ -12,7 +12,7 @@ two n = n / 256 % 256 ∷ n % 256 ∷ []
 abbrev pub four : ℕ → List ℕ
 four n = n / 16_777_216 % 256 ∷ n / 65_536 % 256 ∷ two n
 
--- a signed number of 32 bits, two's complement
+-- S7: two's complement
 abbrev pub signed : ℤ → List ℕ
 signed (pos n) = four n
 signed (negsuc n) = four (4_294_967_296 - suc n)
@@ -25,7 +25,7 @@ abbrev pub signeds : List ℤ → List ℕ
 signeds [] = []
 signeds (z ∷ zs) = signed z ++ signeds zs
 
--- waypoints that move on the north axis alone
+-- waypoints that go north alone
 abbrev pub northward : List ℤ → List ℤ
 northward [] = []
 northward (z ∷ zs) = z ∷ pos 0 ∷ pos 0 ∷ northward zs

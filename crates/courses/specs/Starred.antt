@@ -1,4 +1,4 @@
--- 01, Courses to try: "Starred ones are proved directly from the definitions, gathered in one list with a single claim about the list."
+-- W1 to W9: the starred courses as one list, and the one claim about it (StarredRight). Told of the north axis.
 use mathlib.Core.Path.{_≡_}
 use mathlib.Core.List.{List, [], _∷_}
 use Prim.Native.Nat.{ℕ, _*_}
@@ -12,14 +12,14 @@ use Rattle.spline.specs.Position.{numerator}
 use Rattle.place.specs.Places.{placeAtTick, bendOf, endOf}
 use Rattle.courses.specs.Sheets.{sheet, northward}
 
--- at a tick: the tick, from 0, at which it stands, the place given out (north), and the exact value as a fraction where 01 gives one
+-- what is asked at a tick: where it stands, counted from 0, the place, and the value before rounding as a fraction where the clause tells it
 pub record Asked : Type 0 where
   pub tick : ℕ
   pub stands : ℕ
   pub given : ℤ
   pub exactly : List (ℤ × ℕ)
 
--- a course: its sheet, the bend numbers (north), and what is asked of it
+-- a course: its sheet, its bend numbers, and what is asked of it
 pub record Worked : Type 0 where
   pub bytes : List ℕ
   pub bends : List ℤ
@@ -27,31 +27,31 @@ pub record Worked : Type 0 where
 
 abbrev pub starred : List Worked
 starred =
-    -- "A, north: the middle Z is -65,536; the place at tick 1 is 5.5, given as 6."
+    -- W1, with T5's sheet
     record {
       bytes = sheet Free (2 ∷ 2 ∷ []) (pos 0 ∷ pos 10 ∷ pos 20 ∷ pos 8 ∷ pos 10 ∷ pos 22 ∷ pos 0 ∷ pos 10 ∷ pos 24 ∷ []) [];
       bends = pos 0 ∷ negsuc 65_535 ∷ pos 0 ∷ [];
       asked = record { tick = 1; stands = 1; given = pos 6; exactly = (pos 11, 2) ∷ [] } ∷ [];
     }
-    -- "A with north negated: 65,536; -5.5, given as -5."
+    -- W2
     ∷ record {
       bytes = sheet Free (2 ∷ 2 ∷ []) (pos 0 ∷ pos 10 ∷ pos 20 ∷ negsuc 7 ∷ pos 10 ∷ pos 22 ∷ pos 0 ∷ pos 10 ∷ pos 24 ∷ []) [];
       bends = pos 0 ∷ pos 65_536 ∷ pos 0 ∷ [];
       asked = record { tick = 1; stands = 1; given = negsuc 4; exactly = (negsuc 10, 2) ∷ [] } ∷ [];
     }
-    -- "Free, legs 1, 1, 1, values 0, 1, 0, 0: Z 0, -39,321, 26,214, 0."
+    -- W3, K6
     ∷ record {
       bytes = sheet Free (1 ∷ 1 ∷ 1 ∷ []) (northward (pos 0 ∷ pos 1 ∷ pos 0 ∷ pos 0 ∷ [])) [];
       bends = pos 0 ∷ negsuc 39_320 ∷ pos 26_214 ∷ pos 0 ∷ [];
       asked = [];
     }
-    -- "Free, legs 1, 2, values 0, 0, 6: middle Z 32,768; tick 2 gives 2."
+    -- W4
     ∷ record {
       bytes = sheet Free (1 ∷ 2 ∷ []) (northward (pos 0 ∷ pos 0 ∷ pos 6 ∷ [])) [];
       bends = pos 0 ∷ pos 32_768 ∷ pos 0 ∷ [];
       asked = record { tick = 2; stands = 2; given = pos 2; exactly = [] } ∷ [];
     }
-    -- "Held, one leg of 4, values 0, 16, both slopes 0: Z 65,536, -65,536; tick 1 gives 3, tick 2 gives 8."
+    -- W5
     ∷ record {
       bytes = sheet Held (4 ∷ []) (northward (pos 0 ∷ pos 16 ∷ [])) (pos 0 ∷ pos 0 ∷ pos 0 ∷ pos 0 ∷ pos 0 ∷ pos 0 ∷ []);
       bends = pos 65_536 ∷ negsuc 65_535 ∷ [];
@@ -60,14 +60,13 @@ starred =
           ∷ record { tick = 2; stands = 2; given = pos 8; exactly = [] }
           ∷ [];
     }
-    -- "Same with both slopes 4: Z 0, 0; tick 1 gives 4."
+    -- W6
     ∷ record {
       bytes = sheet Held (4 ∷ []) (northward (pos 0 ∷ pos 16 ∷ [])) (pos 4 ∷ pos 0 ∷ pos 0 ∷ pos 4 ∷ pos 0 ∷ pos 0 ∷ []);
       bends = pos 0 ∷ pos 0 ∷ [];
       asked = record { tick = 1; stands = 1; given = pos 4; exactly = [] } ∷ [];
     }
-    -- "Closed, four legs of 2, values 0, 6, 0, -6: Z 0, -49,152, 0, 49,152; tick 1 gives 4."
-    -- "The same at tick 18,446,744,073,709,551,615 stands at 7 and gives -4."
+    -- W7, and W8: the last tick of 64 bits
     ∷ record {
       bytes = sheet Closed (2 ∷ 2 ∷ 2 ∷ 2 ∷ []) (northward (pos 0 ∷ pos 6 ∷ pos 0 ∷ negsuc 5 ∷ [])) [];
       bends = pos 0 ∷ negsuc 49_151 ∷ pos 0 ∷ pos 49_152 ∷ [];
@@ -76,7 +75,7 @@ starred =
           ∷ record { tick = 18_446_744_073_709_551_615; stands = 7; given = negsuc 3; exactly = [] }
           ∷ [];
     }
-    -- "Free, two waypoints: Z 0, 0."
+    -- W9, at one pair of values; for all of them: Theorems
     ∷ record {
       bytes = sheet Free (1 ∷ []) (northward (pos 3 ∷ pos 7 ∷ [])) [];
       bends = pos 0 ∷ pos 0 ∷ [];
@@ -89,7 +88,7 @@ abbrev pub Every : {A : Type 0} → (A → Type 0) → List A → Type 0
 Every P [] = Unit {0}
 Every P (x ∷ xs) = P x × Every P xs
 
--- the list as a laying out leaves it, whatever it held: here 7s
+-- what a laying out leaves in a list of 7s
 abbrev pub laid : List ℕ → List ℤ
 laid s = laidOut s (replicate (3 * points s) (pos 7))
 
@@ -110,6 +109,6 @@ AskedRight s a =
 abbrev pub Right : Worked → Type 0
 Right w = (layOut (w .bytes) (3 * points (w .bytes)) .number ≡ 0) × (take (points (w .bytes)) (laid (w .bytes)) ≡ w .bends) × Every (AskedRight (w .bytes)) (w .asked)
 
--- the single claim about the list
+-- all of them are right
 abbrev pub StarredRight : Type 0
 StarredRight = Every Right starred

@@ -1,1 +1,1 @@
-// No code: the starred courses of 01 ('Courses to try'), proved directly from the definitions. See specs/Starred.antt.
+// No code: the worked courses W1 to W9, proved from the definitions. See specs/Starred.antt and specs/Theorems.antt.

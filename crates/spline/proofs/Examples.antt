@@ -2,19 +2,19 @@
 -- the courses crate, build on them.
 use mathlib.Core.Path.{_≡_, refl, subst, ap}
 use mathlib.Core.List.{List, [], _∷_}
-use Prim.Native.Nat.{ℕ, zero, suc, _-_, _≤_, _<_}
+use Prim.Native.Nat.{ℕ, _-_, _≤_, _<_}
 use native.Mathlib.Omega.{arith}
 use lib.Dec.{lit≤}
 use lib.ListN.{getD}
 use lib.IntN.{ℤ, pos, negsuc, natAbs, _-ℤ_, _*ℤ_}
-use Rattle.integers.proofs.Order.{le-or-lt}
 use Rattle.integers.proofs.Ring.{_⊖_, #_}
 use Rattle.integers.proofs.Linear.{_≐_, _⊢_≗_with_, lin}
 use Rattle.ends.specs.declared.EndKind.{EndKind}
 use Rattle.ends.specs.declared.EndKind.the-variants.{Free, Held, Closed}
 use Rattle.rounding.specs.Rounded.{floor, rounded}
-use Rattle.systems.specs.Rows.{Rows, rowSum, Solves}
+use Rattle.systems.specs.Rows.{rowSum, Solves}
 use Rattle.systems.specs.Passes.{at, target, renewed, turn, sweep, pass, passes}
+use Rattle.systems.proofs.Below.{Below, below}
 use Rattle.spline.specs.Spline.{Course, legs, next, prev, legBefore, stepAfter, stepBefore, Cubic, Curve, valueAt, firstAt, secondAt, Exact, innerRow, freeRow, heldStartRow, heldEndRow, along, rowOf, rowsBy, rows, bends}
 use Rattle.spline.specs.Position.{numerator, position}
 
@@ -61,15 +61,7 @@ steep-tried : ¬ Exact heldLeg (curve 1 (cubic (pos 0) (pos 0) (pos 1) (pos 0) �
 unfolding firstAt legs
 steep-tried e = differ (pos 8) (pos 0) (lit≤ tt) (e .heldEnd refl)
 
--- ---- a fact at every number below n, from the fact at each of them
-abbrev pub Below : ℕ → (ℕ → Type 0) → Type 0
-Below zero P = Unit {0}
-Below (suc n) P = Below n P × P n
-
-pub below : (n : ℕ) (P : ℕ → Type 0) → Below n P → (i : ℕ) → i < n → P i
-below zero P h i l = absurd (omega arith)
-below (suc n) P h i l = le-or-lt n i (P i) (λ g. let e : n ≡ i = omega arith in subst P e (h .1)) (λ g. below n P (h .0) i g)
-
+-- ---- exact splines, by computing
 -- what `Exact` asks on the leg i and at its start
 abbrev pub OnLeg : Course → Curve → ℕ → Type 0
 OnLeg c f i =

@@ -1,16 +1,17 @@
 -- What theorems would say of worked courses (Examples), computed before they are proved: a false one fails here, by its numbers. Nothing rests on this file;
 -- Waypoints names it so that it is checked first.
 use mathlib.Core.Path.{refl}
-use Prim.Native.Nat.{ℕ, _≤_, _<_}
+use Prim.Native.Nat.{_≤_}
 use lib.Dec.{lit≤}
 use lib.IntN.{pos, natAbs}
 use Rattle.integers.proofs.Tried.{Tried, tried}
 use Rattle.rounding.specs.Rounded.{floor, rounded}
 use Rattle.systems.specs.Passes.{at, target, renewed, turn, sweep, pass, passes}
+use Rattle.systems.proofs.Below.{below}
 use Rattle.spline.specs.Spline.{InBounds, legs, next, prev, stepAfter, stepBefore, valueAt, secondAt, bend6, innerRow, freeRow, along, rowOf, rowsBy, bends}
 use Rattle.spline.specs.Position.{numerator, position, Near}
 use Rattle.spline.specs.Theorems.{RowsFollow}
-use Rattle.spline.proofs.Examples.{below, A, curveA, workedA, flat, flatCurve}
+use Rattle.spline.proofs.Examples.{A, curveA, workedA, flat, flatCurve}
 
 boundsA : InBounds A
 unfolding legs

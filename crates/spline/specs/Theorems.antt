@@ -1,7 +1,7 @@
 -- What is proved of one axis of a course, each theorem as a statement that can be read without its proof; proofs/ has it under the same name in lower case.
 use mathlib.Core.Path.{_≡_}
 use mathlib.Core.Bool.{true}
-use mathlib.Core.List.{List, [], _∷_}
+use mathlib.Core.List.{[], _∷_}
 use Prim.Native.Nat.{ℕ, _+_, _*_, _≤_, _<_}
 use lib.ListN.{replicate}
 use lib.IntN.{ℤ, pos, natAbs, _-ℤ_, _*ℤ_}

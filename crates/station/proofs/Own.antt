@@ -2,7 +2,7 @@
 -- waypoint i of that axis (L5).
 use mathlib.Core.Path.{_≡_, refl, sym, _∙_, ap}
 use mathlib.Core.List.{List, _++_}
-use Prim.Native.Nat.{ℕ, zero, suc, _+_, _*_, _≤_, _<_}
+use Prim.Native.Nat.{ℕ, _+_, _*_, _≤_, _<_}
 use native.Mathlib.Omega.{arith}
 use native.Mathlib.Nat.{mul-le-mul-right, le-pred-of-lt}
 use lib.IntN.{ℤ, pos}
@@ -10,6 +10,7 @@ use lib.ListN.{length, take, drop, replicate, length-append, length-take, length
 use lib.Seq.{getD-take, getD-append-add, take-at}
 use Rattle.sheet.specs.Fields.{points}
 use Rattle.systems.specs.Passes.{at}
+use Rattle.systems.proofs.Below.{below}
 use Rattle.systems.proofs.Lists.{length-passes}
 use Rattle.spline.specs.Spline.{Course, rows, bends}
 use Rattle.layout.specs.Course.{course}
@@ -22,13 +23,6 @@ use Rattle.station.proofs.Tried as tried
 -- the laying out itself is the one that C1 asks for
 pub own-laid : OwnLaid
 own-laid s accepted list long = record { lent = list; not-refused = done-answer s (length list) accepted long; holds = refl }
-
--- what holds of 0, 1 and 2 holds of every axis
-pub each-axis : (P : ℕ → Type 0) → P 0 → P 1 → P 2 → (axis : ℕ) → axis < 3 → P axis
-each-axis P a b c zero h = a
-each-axis P a b c (suc zero) h = b
-each-axis P a b c (suc (suc zero)) h = c
-each-axis P a b c (suc (suc (suc i))) h = absurd (omega arith)
 
 at-first : (xs ys : List ℤ) (j i : ℕ) → j ≡ i → i < length xs → at (xs ++ ys) j ≡ at xs i
 at-first xs ys j i e h = ap (λ (k : ℕ). at (xs ++ ys) k) e ∙ List·getD-append xs ys (pos 0) i h
@@ -49,10 +43,11 @@ module _ (n : ℕ) (part : ℕ → List ℤ) (sizes : (axis : ℕ) → axis < 3 
       let two = length-two in
       let one = sizes 0 (omega arith) in
       let j : i < length (part 0) = omega arith in
-      each-axis (λ axis. at (part 0 ++ part 1 ++ part 2) (axis * n + i) ≡ at (part axis) i)
-      (at-first (part 0 ++ part 1) (part 2) (0 * n + i) i (omega arith) (omega arith) ∙ at-first (part 0) (part 1) i i refl j)
-      (at-first (part 0 ++ part 1) (part 2) (1 * n + i) (n + i) (omega arith) (omega arith) ∙ at-second (part 0) (part 1) (n + i) i (omega arith))
-      (at-second (part 0 ++ part 1) (part 2) (2 * n + i) i (omega arith))
+      let north = at-first (part 0 ++ part 1) (part 2) (0 * n + i) i (omega arith) (omega arith) ∙ at-first (part 0) (part 1) i i refl j in
+      let east =
+      at-first (part 0 ++ part 1) (part 2) (1 * n + i) (n + i) (omega arith) (omega arith) ∙ at-second (part 0) (part 1) (n + i) i (omega arith) in
+      let up = at-second (part 0 ++ part 1) (part 2) (2 * n + i) i (omega arith) in
+      below 3 (λ axis. at (part 0 ++ part 1 ++ part 2) (axis * n + i) ≡ at (part axis) i) (((tt, north), east), up)
 
 -- ---- a sheet's bend numbers
 length-bends : (c : Course) → length (bends c) ≡ c .points

@@ -1,6 +1,6 @@
 -- What the claim would say of a worked sheet, W5's, computed before it is proved: a false claim fails here, by its numbers. Nothing rests on this file; Own
 -- names it so that it is checked first.
-use mathlib.Core.Path.{_≡_, refl, ap}
+use mathlib.Core.Path.{refl, ap}
 use mathlib.Core.List.{List, [], _∷_, _++_}
 use Prim.Native.Nat.{ℕ, _≤_}
 use native.Mathlib.Omega.{arith}
@@ -22,7 +22,7 @@ use Rattle.spline.proofs.Examples.{heldCurve, exact-by}
 use Rattle.layout.specs.Course.{course}
 use Rattle.layout.specs.Layout.{allBends, layOut, laidOut}
 use Rattle.runner.specs.Ticks.{walk, spotAt}
-use Rattle.place.specs.Places.{bendOutside, placeOn, placeAtTick}
+use Rattle.place.specs.Places.{placeOn, placeAtTick}
 use Rattle.station.specs.Claim.{Own, Answers, Claim}
 
 -- held, a leg of 4 ticks from 0 to 16 north, slopes 0

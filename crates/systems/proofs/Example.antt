@@ -8,22 +8,15 @@ use Prim.Native.Nat.{ℕ, zero, suc, _+_, _*_, _-_, _≤_, _<_}
 use native.Mathlib.Omega.{arith}
 use lib.Dec.{lit≤}
 use lib.ListN.{replicate, getD-replicate}
-use lib.IntN.{ℤ, pos, negsuc, natAbs, _-ℤ_, _*ℤ_}
+use lib.IntN.{ℤ, pos, negsuc, natAbs, _*ℤ_}
 use Rattle.integers.proofs.Ring.{_⊕_, _⊗_, ⊝_, #_}
 use Rattle.integers.proofs.Linear.{_≐_, _⊢_≗_with_, lin}
 use Rattle.integers.proofs.Tried.{Tried, tried}
 use Rattle.rounding.specs.Rounded.{floor, rounded}
 use Rattle.systems.specs.Rows.{Row, rowSum, Rows, Dominant, Solves, Solution}
-use Rattle.systems.specs.Passes.{at, target, renewed, turn, sweep, pass, passes}
+use Rattle.systems.specs.Passes.{target, renewed, turn, sweep, pass, passes}
 use Rattle.systems.specs.Theorems.{Solvable, Unique, Passing, FortyPassesNear, PassesBounded, EarlyEnd}
-
--- a fact of each index below 4
-below4 : (P : ℕ → Type 0) → P 0 → P 1 → P 2 → P 3 → (i : ℕ) → i < 4 → P i
-below4 P a b c d zero h = a
-below4 P a b c d (suc zero) h = b
-below4 P a b c d (suc (suc zero)) h = c
-below4 P a b c d (suc (suc (suc zero))) h = d
-below4 P a b c d (suc (suc (suc (suc i)))) h = absurd (omega arith)
+use Rattle.systems.proofs.Below.{below}
 
 abbrev inner : ℤ → Row
 inner r = record { present = true; before = 1; middle = 4; after = 1; right = r }
@@ -45,11 +38,11 @@ dominant : Dominant 2 rows
 dominant = record {
   two = lit≤ tt;
   prev-fits = λ i h. omega arith;
-  next-fits = below4 (λ i. rows .next i < 4) (lit≤ tt) (lit≤ tt) (lit≤ tt) (lit≤ tt);
-  outer = below4 (λ i. 2 * (row i .before + row i .after) ≤ row i .middle) (lit≤ tt) (lit≤ tt) (lit≤ tt) (lit≤ tt);
-  some = below4 (λ i. 1 ≤ row i .middle) (lit≤ tt) (lit≤ tt) (lit≤ tt) (lit≤ tt);
-  absent = below4 (λ i. row i .present ≡ false → (row i .before ≡ 0) × (row i .after ≡ 0) × (row i .right ≡ pos 0))
-      (λ e. (refl, refl, refl)) (λ e. (cc, cc, cc)) (λ e. (cc, cc, cc)) (λ e. (refl, refl, refl));
+  next-fits = below 4 (λ i. rows .next i < 4) ((((tt, lit≤ tt), lit≤ tt), lit≤ tt), lit≤ tt);
+  outer = below 4 (λ i. 2 * (row i .before + row i .after) ≤ row i .middle) ((((tt, lit≤ tt), lit≤ tt), lit≤ tt), lit≤ tt);
+  some = below 4 (λ i. 1 ≤ row i .middle) ((((tt, lit≤ tt), lit≤ tt), lit≤ tt), lit≤ tt);
+  absent = below 4 (λ i. row i .present ≡ false → (row i .before ≡ 0) × (row i .after ≡ 0) × (row i .right ≡ pos 0))
+      ((((tt, λ e. (refl, refl, refl)), λ e. (cc, cc, cc)), λ e. (cc, cc, cc)), λ e. (refl, refl, refl));
 }
 
 abbrev zeros : List ℤ
@@ -59,7 +52,7 @@ zeros = replicate 4 (pos 0)
 passing : Passing 2 rows 65536 327680 zeros
 passing = record {
   dominant = dominant;
-  small = below4 (λ i. 2 * (65536 * natAbs (row i .right)) ≤ (2 - 1) * row i .middle * 327680) (lit≤ tt) (lit≤ tt) (lit≤ tt) (lit≤ tt);
+  small = below 4 (λ i. 2 * (65536 * natAbs (row i .right)) ≤ (2 - 1) * row i .middle * 327680) ((((tt, lit≤ tt), lit≤ tt), lit≤ tt), lit≤ tt);
   room = lit≤ tt;
   zeros = λ i h. getD-replicate 4 i (pos 0) (pos 0) h;
 }
@@ -72,7 +65,7 @@ exact (suc (suc zero)) = negsuc 42
 exact (suc (suc (suc i))) = pos 0
 
 solves : Solves rows 15 exact
-solves = below4 (λ i. rowSum (row i) (exact (rows .prev i)) (exact i) (exact (rows .next i)) ≡ pos 15 *ℤ row i .right) refl refl refl refl
+solves = below 4 (λ i. rowSum (row i) (exact (rows .prev i)) (exact i) (exact (rows .next i)) ≡ pos 15 *ℤ row i .right) ((((tt, refl), refl), refl), refl)
 
 -- 65,536 times the exact numbers are 161,655.47 and -187,869.87
 computed : passes rows 65536 40 zeros ≡ pos 0 ∷ pos 161656 ∷ negsuc 187869 ∷ pos 0 ∷ []
@@ -86,7 +79,7 @@ near-tried = tried (λ (near : FortyPassesNear). near 2 rows 65536 327680 zeros 
 
 -- the solution over 30 has twice the numbers: 30 × 37 = 15 × 74
 unique-tried : Tried
-unique-tried = tried (λ (same : Unique). same 2 rows dominant 15 30 exact doubled solves (below4 (λ i. Row30 i) refl refl refl refl) 1 (lit≤ tt)) refl
+unique-tried = tried (λ (same : Unique). same 2 rows dominant 15 30 exact doubled solves (below 4 Row30 ((((tt, refl), refl), refl), refl)) 1 (lit≤ tt)) refl
   where
     doubled : ℕ → ℤ
     doubled i = pos 2 *ℤ exact i
