@@ -1,9 +1,11 @@
 -- The one proof of all claims: it names each theorem.
 use Rattle.sheet.proofs.Laws.{read-or-refused, read-accepted, accepted-bounds}
+use Rattle.sheet.proofs.Longest.{longest}
 use Rattle.systems.proofs.Size.{unique, solution-bounded}
 use Rattle.systems.proofs.Existence.{solvable}
 use Rattle.systems.proofs.Distance.{passes-near, forty-passes-near, passes-bounded}
 use Rattle.systems.proofs.Lists.{early-end}
+use Rattle.spline.proofs.RowKinds.{row-gap, free-pair-zeros}
 use Rattle.spline.proofs.RowsFollow.{rows-follow}
 use Rattle.spline.proofs.Existence.{spline-exists}
 use Rattle.spline.proofs.OneCurve.{one-curve}
@@ -14,7 +16,9 @@ use Rattle.runner.proofs.Standing.{tick-stands, one-runner}
 use Rattle.runner.proofs.Onward.{closed-steps, open-steps, step-before}
 use Rattle.place.proofs.Waypoints.{tick-is-runner, leg-ends-met, waypoint-met-at-tick, waypoint-met-by-runner}
 use Rattle.station.proofs.Claim.{claim}
+use Rattle.station.proofs.Own.{own-laid}
 use Rattle.courses.proofs.Starred.{starred-right}
+use Rattle.courses.proofs.Theorems.{chord-not-near, free-pair-unbent}
 use Rattle.claims.specs.Claims.{Claims}
 use Rattle.claims.proofs.Refused.{refusal-passed-on, refused-keeps-list, refused-keeps-record}
 
@@ -29,7 +33,9 @@ claims = record {
   };
   demand2 = record {
     accepted-bounds = accepted-bounds;
+    longest = longest;
     tick-is-runner = tick-is-runner;
+    row-gap = row-gap;
     laid-out-near = laid-out-near;
     tick-stands = tick-stands;
     leg-ends-met = leg-ends-met;
@@ -40,8 +46,11 @@ claims = record {
     open-steps = open-steps;
     step-before = step-before;
     starred-right = starred-right;
+    free-pair-unbent = free-pair-unbent;
+    chord-not-near = chord-not-near;
   };
   demand3 = claim;
+  own-laid = own-laid;
   theory = record {
     solvable = solvable;
     unique = unique;
@@ -55,6 +64,7 @@ claims = record {
     one-curve = one-curve;
     course-in-bounds = course-in-bounds;
     bends-near = bends-near;
+    free-pair-zeros = free-pair-zeros;
     bends-bounded = bends-bounded;
     position-sharp = position-sharp;
     position-near = position-near;

@@ -1,13 +1,14 @@
 -- Every theorem that docs/CLAIMS.md claims: a field for each, its type the statement, in the order of docs/REQUIREMENTS.md. The three demands are
 -- three records; demand 3 is `Claim`. The one proof is proofs/Claims.antt, so that a statement that loses its proof breaks the gate.
-use Rattle.sheet.specs.Theorems.{ReadOrRefused, ReadAccepted, AcceptedBounds}
+use Rattle.sheet.specs.Theorems.{ReadOrRefused, ReadAccepted, AcceptedBounds, Longest}
 use Rattle.systems.specs.Theorems.{Solvable, Unique, SolutionBounded, PassesNear, FortyPassesNear, PassesBounded, EarlyEnd}
-use Rattle.spline.specs.Theorems.{RowsFollow, SplineExists, OneCurve, BendsNear, BendsBounded, PositionSharp, PositionNear}
+use Rattle.spline.specs.Theorems.{RowGap, RowsFollow, SplineExists, OneCurve, BendsNear, FreePairZeros, BendsBounded, PositionSharp, PositionNear}
 use Rattle.layout.specs.Theorems.{CourseInBounds, LaidOutNear}
 use Rattle.runner.specs.Theorems.{TickStands, OneRunner, ClosedSteps, OpenSteps, StepBefore}
 use Rattle.place.specs.Theorems.{LegEndsMet, WaypointMetAtTick, WaypointMetByRunner, TickIsRunner}
-use Rattle.station.specs.Claim.{Claim}
+use Rattle.station.specs.Claim.{Claim, OwnLaid}
 use Rattle.courses.specs.Starred.{StarredRight}
+use Rattle.courses.specs.Theorems.{ChordNotNear, FreePairUnbent}
 use Rattle.claims.specs.Refused.{RefusalPassedOn, RefusedKeepsList, RefusedKeepsRecord}
 
 -- D1: a bad input gets its number, and a refused call changes nothing. (That calls end and are safe is proved of every function, by the checker itself.)
@@ -26,8 +27,11 @@ pub record Demand1 : Type 0 where
 pub record Demand2 : Type 0 where
   -- S9, N4 to N8: the bounds of an accepted sheet
   pub accepted-bounds : AcceptedBounds
+  pub longest : Longest
   -- A4, A5: the place by tick is the place of the tick's runner
   pub tick-is-runner : TickIsRunner
+  -- R6
+  pub row-gap : RowGap
   -- L6
   pub laid-out-near : LaidOutNear
   -- P3, P4
@@ -44,8 +48,12 @@ pub record Demand2 : Type 0 where
   pub open-steps : OpenSteps
   -- N13, K7: landed is said at the last tick alone
   pub step-before : StepBefore
-  -- W1 to W9
+  -- W1 to W8, and W9 at one pair of values
   pub starred-right : StarredRight
+  -- W9 for all values
+  pub free-pair-unbent : FreePairUnbent
+  -- K4, K8: zeros in place of bend numbers fail on tenfold A
+  pub chord-not-near : ChordNotNear
 
 -- What demand 3 rests on, step by step (docs/THEORY.md)
 pub record Theory : Type 0 where
@@ -63,6 +71,7 @@ pub record Theory : Type 0 where
   pub one-curve : OneCurve
   pub course-in-bounds : CourseInBounds
   pub bends-near : BendsNear
+  pub free-pair-zeros : FreePairZeros
   pub bends-bounded : BendsBounded
   pub position-sharp : PositionSharp
   pub position-near : PositionNear
@@ -70,6 +79,8 @@ pub record Theory : Type 0 where
 pub record Claims : Type 0 where
   pub demand1 : Demand1
   pub demand2 : Demand2
-  -- D3: C1 to C9
+  -- D3: C2 to C9
   pub demand3 : Claim
+  -- C1: own bend numbers are there after a laying out
+  pub own-laid : OwnLaid
   pub theory : Theory
