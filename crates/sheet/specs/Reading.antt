@@ -42,21 +42,21 @@ slopesOutside Closed s = false
 
 -- when each number applies to a sheet. `most` is the largest N. N9 to N13 ask about more than the sheet, and reading does not test them.
 abbrev pub applies : ℕ → List ℕ → Refusal → Bool
--- N1
+-- N1: too short, or not as long as it states
 applies most s Torn = ltb (length s) 8 || not (eqb (lengthField s) (length s))
--- N2
+-- N2: the version
 applies most s Edition = not (eqb (version s) 1)
--- N3
+-- N3: the kind
 applies most s Ends = ltb 2 (kindField s)
--- N4
+-- N4: the waypoints' count
 applies most s Points = ltb (points s) (leastPoints (kind s)) || ltb most (points s)
--- N5
+-- N5: the bytes' count
 applies most s Size = not (eqb (length s) (sheetLength (kind s) (points s)))
--- N6
+-- N6: some leg
 applies most s Leg = anyBelow (λ i. legOutside (leg s i)) (legs s)
--- N7
+-- N7: some number of some waypoint
 applies most s Reach = anyBelow (λ i. anyBelow (λ axis. reachOutside axis (waypoint s axis i)) 3) (points s)
--- N8
+-- N8: some slope
 applies most s Slope = slopesOutside (kind s) s
 -- N9 to N13
 applies most s Shelf = false
