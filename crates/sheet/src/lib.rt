@@ -9,6 +9,7 @@ pub use bytes::read_signed;
 pub use bytes::read16;
 pub use fields::end_of;
 pub use fields::leg_length;
+pub use fields::slope_on;
 pub use fields::waypoint_on;
 pub use reader::read;
 pub use refusals::number_of;
