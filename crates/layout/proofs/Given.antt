@@ -1,22 +1,20 @@
 -- What is known of a sheet while an axis is laid out: it is accepted, so its fields have their bounds, and so has its course.
-use mathlib.Core.Path.{_≡_, sym, _∙_, ap}
+use mathlib.Core.Path.{_≡_, sym, _∙_}
 use mathlib.Core.List.{List}
-use Prim.Native.Nat.{ℕ, _+_, _*_, _-_, _≤_, _<_}
+use Prim.Native.Nat.{ℕ, _≤_, _<_}
 use native.Mathlib.Omega.{arith}
 use lib.IntN.{natAbs}
 use lib.ListN.{length}
 use Rattle.integers.proofs.Order.{le-or-lt}
 use Rattle.ends.specs.Ends.{legCount}
 use Rattle.ends.specs.declared.EndKind.{EndKind}
-use Rattle.ends.specs.declared.EndKind.the-variants.{Free, Held, Closed}
-use Rattle.sheet.specs.Bytes.{be32, signed32}
-use Rattle.sheet.specs.Fields.{kind, points, legs, waypoint, slope, slopeBytes, sheetLength}
+use Rattle.sheet.specs.Fields.{kind, legs, waypoint, sheetLength}
 use Rattle.sheet.specs.Theorems.{Bounds}
 use Rattle.sheet.proofs.ByKind.{least-two, legs-at-most}
 use Rattle.spline.specs.Spline as spline
 use Rattle.spline.proofs.Waypoints.{prev-lt}
 use Rattle.layout.specs.Course.{course}
-use Rattle.layout.specs.Inside.{OnSheet}
+use Rattle.layout.specs.Inside.{OnSheet, AtEnd}
 
 -- the bounds of a sheet are those of its course on each axis
 pub bounds-course : (s : List ℕ) (axis : ℕ) → axis < 3 → Bounds s → spline.InBounds (course s axis)
@@ -27,22 +25,6 @@ bounds-course s axis a b = record {
   reach = λ i l. b .reach axis i a l;
   slope = λ held. (b .slope axis 0 a (omega arith) held, b .slope axis 1 a (omega arith) held);
 }
-
--- the numbers behind the waypoints are the slopes
-pub slope-behind : (s : List ℕ) (axis side : ℕ) → waypoint s axis (points s + side) ≡ slope s axis side
-slope-behind s axis side = ap (λ (at : ℕ). signed32 (be32 s at)) (omega arith)
-
--- so every number of an axis is small, those of the waypoints and those of the slopes
-number-small : (s : List ℕ) (axis i : ℕ) (k : EndKind) → k ≡ kind s → axis < 3 → Bounds s → 12 * i + 12 ≤ 12 * points s + slopeBytes k
-    → natAbs (waypoint s axis i) ≤ 1_000_000
-number-small s axis i Free e a b h = b .reach axis i a (omega arith)
-number-small s axis i Held e a b h = le-or-lt (points s) i (natAbs (waypoint s axis i) ≤ 1_000_000)
-    (λ l.
-    let side = i - points s in
-    let q : points s + side ≡ i = omega arith in
-    rw (← q, slope-behind s axis side) (omega (arith, b .slope axis side a (omega arith) (sym e))))
-    (λ l. b .reach axis i a l)
-number-small s axis i Closed e a b h = b .reach axis i a (omega arith)
 
 module _ {s : List ℕ} {k : EndKind} {n axis : ℕ} (o : OnSheet s k n axis) where
   pub same-legs : legCount k n ≡ legs s
@@ -60,8 +42,11 @@ module _ {s : List ℕ} {k : EndKind} {n axis : ℕ} (o : OnSheet s k n axis) wh
   pub few-legs : legCount k n ≤ n
   few-legs = legs-at-most k n
 
-  pub value-small : (i : ℕ) → 12 * i + 12 ≤ 12 * n + slopeBytes k → natAbs (waypoint s axis i) ≤ 1_000_000
-  value-small i h = number-small s axis i k (o .sameKind) (o .axisFits) (o .bounds) (omega (arith, o .samePoints))
+  pub value-small : (i : ℕ) → i < n → natAbs (waypoint s axis i) ≤ 1_000_000
+  value-small i h = o .bounds .reach axis i (o .axisFits) (omega (arith, o .samePoints))
+
+  pub end-fits : (i : ℕ) → AtEnd n i → i < n
+  end-fits i a = le-or-lt 1 i (i < n) (λ h. omega (arith, a h)) (λ h. omega (arith, two-points))
 
   pub in-bounds : spline.InBounds (course s axis)
   in-bounds = bounds-course s axis (o .axisFits) (o .bounds)

@@ -1,20 +1,21 @@
 -- Which row a waypoint has, in the code's terms (src/row.rt). All by spline's one case distinction, `Seat`.
-use mathlib.Core.Path.{_≡_, refl, sym, _∙_, ap, subst, transport}
-use mathlib.Core.Bool.{true}
+use mathlib.Core.Path.{_≡_, refl, sym, _∙_, ap, subst}
+use mathlib.Core.Bool.{Bool, true, false}
 use mathlib.Core.List.{List}
-use Prim.Native.Nat.{ℕ, _+_, _-_, _<_}
+use Prim.Native.Nat.{ℕ, _+_, _-_, _≤_, _<_}
 use native.Mathlib.Omega.{arith}
+use Rattle.integers.proofs.Order.{le-or-lt}
 use Rattle.ends.specs.Ends.{legCount}
 use Rattle.ends.specs.declared.EndKind.{EndKind}
 use Rattle.ends.specs.declared.EndKind.the-variants.{Free, Held, Closed}
-use Rattle.sheet.specs.Fields.{points, legs}
+use Rattle.sheet.specs.Fields.{legs}
 use Rattle.systems.specs.Rows.{Row}
-use Rattle.spline.specs.Spline.{Course, InBounds, prev, legBefore, stepAfter, stepBefore, innerRow, freeRow, heldStartRow, heldEndRow, rowOf}
+use Rattle.spline.specs.Spline.{Course, prev, legBefore, stepAfter, stepBefore, innerRow, freeRow, heldStartRow, heldEndRow, rowOf}
 use Rattle.spline.specs.Spline as spline
-use Rattle.spline.proofs.Waypoints.{prev-lt, open-legs}
-use Rattle.spline.proofs.Seats.{lastPoint, innerAt, Seat, seat, seat-row, shared, freeStart, freeEnd, heldStart, heldEnd}
+use Rattle.spline.proofs.Waypoints.{prev-lt}
+use Rattle.spline.proofs.Seats.{lastPoint, innerAt, Seat, seat-row, shared, freeStart, freeEnd, heldStart, heldEnd}
 use Rattle.layout.specs.Course.{course}
-use Rattle.layout.specs.Inside.{OnSheet, HasRow, Inner, skipped}
+use Rattle.layout.specs.Inside.{OnSheet, AtEnd, Inner}
 use Rattle.layout.proofs.Neighbours.{prev-later}
 use Rattle.layout.proofs.Given.{same-legs, two-points, in-bounds}
 
@@ -23,15 +24,6 @@ inner-legs : (c : Course) (k : EndKind) (n i : ℕ) → c .points ≡ n → Inne
 inner-legs c Free n i e (a, b) = (omega (arith, prev-later c i a), omega arith)
 inner-legs c Held n i e (a, b) = (omega (arith, prev-later c i a), omega arith)
 inner-legs c Closed n i e h = (omega (arith, prev-lt c i (omega arith)), h)
-
--- where there is a row, it is present
-present-at : {c : Course} → InBounds c → {i : ℕ} {r : Row} → Seat 2 1 c i r → HasRow (c .ends) (c .points) i → r .present ≡ true
-unfolding innerRow heldStartRow heldEndRow
-present-at b (shared i f g) h = refl
-present-at {c} b (freeStart q) h = absurd (omega (arith, ap skipped q, h .0))
-present-at {c} b (freeEnd q) h = absurd (omega (arith, ap skipped q, h .1, open-legs b Free q refl))
-present-at b (heldStart q) h = refl
-present-at b (heldEnd q) h = refl
 
 module _ {s : List ℕ} {k : EndKind} {n axis : ℕ} (o : OnSheet s k n axis) where
   abbrev c : Course
@@ -71,16 +63,27 @@ module _ {s : List ℕ} {k : EndKind} {n axis : ℕ} (o : OnSheet s k n axis) wh
   pub held-end-row : k ≡ Held → (i : ℕ) → i + 1 ≡ n → rowOf 2 1 k c i ≡ heldEndRow 2 1 (legBefore c i) (stepBefore c i) (c .endSlope)
   held-end-row q = at-last Held q refl (λ j. heldEndRow 2 1 (legBefore c j) (stepBefore c j) (c .endSlope)) (seat-is (heldEnd (ends-are q)))
 
-  pub free-start-row : k ≡ Free → rowOf 2 1 k c 0 ≡ freeRow
+  free-start-row : k ≡ Free → rowOf 2 1 k c 0 ≡ freeRow
   free-start-row q = seat-is (freeStart (ends-are q))
 
-  pub free-end-row : k ≡ Free → (i : ℕ) → i + 1 ≡ n → rowOf 2 1 k c i ≡ freeRow
+  free-end-row : k ≡ Free → (i : ℕ) → i + 1 ≡ n → rowOf 2 1 k c i ≡ freeRow
   free-end-row q = at-last Free q refl (λ j. freeRow) (seat-is (freeEnd (ends-are q)))
 
-  pub row-present : (i : ℕ) → HasRow k n i → rowOf 2 1 k c i .present ≡ true
-  unfolding course
-  row-present i h =
-      let b = in-bounds o in
-      let fits : i < points s = omega (arith, o .samePoints, h .1) in
-      ap (λ (r : Row). r .present) (told-kind i)
-      ∙ present-at b (seat 2 1 b i fits) (transport (λ j. HasRow (o .sameKind j) (o .samePoints j) i) h)
+  -- which of them a pass renews
+  abbrev Present : Bool → ℕ → Type 0
+  Present b i = rowOf 2 1 k c i .present ≡ b
+
+  pub inner-present : (i : ℕ) → Inner k n i → Present true i
+  unfolding innerRow
+  inner-present i h = ap (λ (r : Row). r .present) (inner-row i h)
+
+  at-end : (b : Bool) (i : ℕ) → AtEnd n i → Present b 0 → (i + 1 ≡ n → Present b i) → Present b i
+  at-end b i a x y = le-or-lt 1 i (Present b i) (λ h. y (a h)) (λ h. let e : 0 ≡ i = omega arith in subst (Present b) e x)
+
+  pub held-present : k ≡ Held → (i : ℕ) → AtEnd n i → Present true i
+  unfolding heldStartRow heldEndRow
+  held-present q i a = at-end true i a (ap (λ (r : Row). r .present) (held-start-row q)) (λ h. ap (λ (r : Row). r .present) (held-end-row q i h))
+
+  pub free-absent : k ≡ Free → (i : ℕ) → AtEnd n i → Present false i
+  unfolding freeRow
+  free-absent q i a = at-end false i a (ap (λ (r : Row). r .present) (free-start-row q)) (λ h. ap (λ (r : Row). r .present) (free-end-row q i h))

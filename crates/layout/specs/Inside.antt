@@ -1,6 +1,6 @@
 -- What the functions inside laying out say of each other. No promise of `lay_out` rests on these words.
 use mathlib.Core.Path.{_≡_}
-use mathlib.Core.Bool.{Bool, true, false, cond}
+use mathlib.Core.Bool.{true, false}
 use mathlib.Core.List.{List}
 use Prim.Native.Nat.{ℕ, _+_, _≤_, _<_}
 use lib.IntN.{ℤ, pos, natAbs}
@@ -15,6 +15,8 @@ use Rattle.systems.specs.Passes.{at, passes}
 use Rattle.spline.specs.Spline.{rows}
 use Rattle.layout.specs.Course.{course}
 use Rattle.layout.specs.declared.row.Row.{Row}
+use Rattle.layout.specs.declared.row.EndRow.{EndRow}
+use Rattle.layout.specs.declared.row.EndRow.the-variants.{Absent, Present}
 
 -- the sheet has the bounds of an accepted one, its kind is k and its N is n; and the axis is one of three
 pub record OnSheet (s : List ℕ) (k : EndKind) (n axis : ℕ) : Type 0 where
@@ -23,21 +25,11 @@ pub record OnSheet (s : List ℕ) (k : EndKind) (n axis : ℕ) : Type 0 where
   pub samePoints : n ≡ points s
   pub axisFits : axis < 3
 
--- whether the first and the last waypoint have rows: 01, "Free: .. the ends have no row"
-abbrev pub endRows : EndKind → Bool
-endRows Free = false
-endRows Held = true
-endRows Closed = true
+-- of n waypoints i is the first, or else the last
+abbrev pub AtEnd : ℕ → ℕ → Type 0
+AtEnd n i = 1 ≤ i → i + 1 ≡ n
 
--- how many waypoints at each end have no row
-abbrev pub skipped : EndKind → ℕ
-skipped k = cond (endRows k) 0 1
-
--- of n waypoints, i has a row
-abbrev pub HasRow : EndKind → ℕ → ℕ → Type 0
-HasRow k n i = (skipped k ≤ i) × (i + skipped k < n)
-
--- 01: "Inner waypoint, or any waypoint of a closed course"
+-- R2: i lies between two legs
 abbrev pub Inner : EndKind → ℕ → ℕ → Type 0
 Inner Free n i = (1 ≤ i) × (i + 1 < n)
 Inner Held n i = (1 ≤ i) × (i + 1 < n)
@@ -60,7 +52,12 @@ pub record Sized (r : Row) : Type 0 where
   pub after : natAbs (r .after) ≤ 16_777_216
   pub right : natAbs (r .right) ≤ 1_024_000_000
 
--- DESIGN 3.3's bound on every bend number in every pass
+-- the code's answer for an end: no row, or the code's row of one that is present
+abbrev pub RowOfEnd : EndRow → systems.Row → Type 0
+RowOfEnd Absent r = r .present ≡ false
+RowOfEnd (Present w) r = (r .present ≡ true) × (w ≡ codeRow r) × Sized w
+
+-- the bound on every bend number in every pass: 65,536 × 2,005,000
 abbrev pub Small : ℤ → Type 0
 Small z = natAbs z ≤ 131_399_680_000
 

@@ -1,4 +1,4 @@
-// Laying out the bend numbers of a sheet (01, Laying out bend numbers): 40 passes in place on each axis, into a lent list.
+// Laying out a sheet's bend numbers into a lent list (group L): each axis through its own part, by forty passes.
 mod pass;
 mod row;
 
@@ -14,7 +14,7 @@ ghost use Rattle.answers.specs.Answers.{toldOutcome};
 ghost use Rattle.layout.specs.Inside.{OnSheet};
 ghost use Rattle.layout.specs.Layout.{allBends, layOut, laidOut};
 
-// 01: "North fills the first N places of the lent list, east the next N, up the N after those; places beyond 3N keep what they held."
+// L5, F3: each axis is handed its own part of the list, from 0, N and 2N.
 fn lay_axes(s: &[u8], kind: EndKind, n: usize, list: &mut [i64])
     requires { ⌜ ((axis : ℕ) → axis < 3 → OnSheet (now s) kind n axis) × (3 * n ≤ length (now list)) ⌝ }
     ensures { λ _. ⌜ now (list .exit) ≡ allBends (now (s .entry)) ++ drop (3 * n) (now (list .entry)) ⌝ }
@@ -27,7 +27,7 @@ fn lay_axes(s: &[u8], kind: EndKind, n: usize, list: &mut [i64])
     pass::lay_axis(s, kind, n, 2, &mut list[up..end]);
 }
 
-// Lays the sheet's bend numbers out in the lent list. Tests 1 to 9; a refused call leaves the list as it is.
+// Lays the sheet's bend numbers out in the lent list (A3). Tests 1 to 9; a refused call leaves the list as it is.
 pub fn lay_out(s: &[u8], list: &mut [i64]) -> Outcome
     ensures answer { λ r. ⌜ toldOutcome r ≡ layOut (now (s .entry)) (length (now (list .entry))) ⌝ }
     ensures list { λ r. ⌜ now (list .exit) ≡ laidOut (now (s .entry)) (now (list .entry)) ⌝ }

@@ -1,18 +1,19 @@
-// Passes over one axis (01, Laying out bend numbers).
+// Passes over one axis (L1 to L4), in place in its part of the lent list.
 use crate::row;
+use crate::row::EndRow;
 use crate::row::Row;
 use ends::EndKind;
 ghost use mathlib.Core.Path.{_≡_};
 ghost use mathlib.Core.Bool.{false};
 ghost use lib.IntN.{pos, natAbs, _-ℤ_, _*ℤ_};
-ghost use lib.ListN.{length, set, replicate};
+ghost use lib.ListN.{length, replicate};
 ghost use Rattle.rounding.specs.Rounded.{rounded};
 ghost use Rattle.systems.specs.Passes as systems;
 ghost use Rattle.spline.specs.Spline.{rows, bends};
 ghost use Rattle.layout.specs.Course.{course};
-ghost use Rattle.layout.specs.Inside.{OnSheet, HasRow, Sized, Small, AllSmall, Reached, endRows};
+ghost use Rattle.layout.specs.Inside.{OnSheet, AtEnd, Sized, Small, AllSmall, Reached};
 
-// 01: "(65,536 × right side - the outer products, with the Z as they are now) / the middle factor", rounded
+// L2: the new number of a row, from its neighbours' present ones.
 fn renewed(row: Row, left: i64, next: i64) -> i64
     requires { ⌜ Sized row × Small left × Small next ⌝ }
     ensures { λ r. ⌜ r ≡ rounded (pos 65536 *ℤ row .right -ℤ row .before *ℤ left -ℤ row .after *ℤ next) (natAbs (row .middle)) ⌝ }
@@ -23,46 +24,31 @@ fn renewed(row: Row, left: i64, next: i64) -> i64
     )
 }
 
-// Whether the first and the last waypoint have rows: 01, "Free: .. the ends have no row".
-fn ends_have_rows(kind: EndKind) -> bool
-    ensures { λ r. ⌜ r ≡ endRows kind ⌝ }
-{
-    match kind {
-        EndKind::Free => false,
-        EndKind::Held => true,
-        EndKind::Closed => true,
-    }
-}
-
-// The turn at a waypoint that has a row, with the numbers as they are now. Answers whether its number changed.
+// The turn at the first or the last waypoint; where the ends are free there is none. Answers whether its number changed.
 fn turn(s: &[u8], kind: EndKind, n: usize, axis: usize, i: usize, z: &mut [i64]) -> bool
-    requires { ⌜ OnSheet (now s) kind n axis × HasRow kind n i × AllSmall n (now z) ⌝ }
-    ensures number { λ r. ⌜ now (z .exit) ≡ set (now (z .entry)) i (systems.renewed (rows (course (now (s .entry)) axis)) 65536 (now (z .entry)) i) ⌝ }
+    requires { ⌜ OnSheet (now s) kind n axis × AtEnd n i × AllSmall n (now z) ⌝ }
+    ensures number { λ r. ⌜ now (z .exit) ≡ systems.step (rows (course (now (s .entry)) axis)) 65536 (now (z .entry)) i ⌝ }
     ensures settled { λ r. ⌜ (r ≡ false → now (z .exit) ≡ now (z .entry)) ⌝ }
 {
+    let end = row::end_row(s, kind, n, axis, i);
+    let EndRow::Present(row) = end else {
+        return false;
+    };
     let old = z[i];
     let left = z[row::before(i, n)];
-    let x = renewed(
-        row::row_at(s, kind, n, axis, i),
-        left,
-        z[sheet::end_of(n, i)],
-    );
+    let x = renewed(row, left, z[sheet::end_of(n, i)]);
     z[i] = x;
     x != old
 }
 
-// 01: "A pass goes from the first waypoint to the last, in place": the first if it has a row, the inner ones, the last if it has a row. Answers whether a number
-// changed. The number just set is the next row's left neighbour; where it is the old one, the old one is taken, so that the next division need not wait for it.
+// L2: the turns from the first waypoint to the last. Answers whether a number changed. The number just set is the next row's left neighbour; where it is
+// the old one, the old one is taken, so that the next division need not wait for it.
 fn pass(s: &[u8], kind: EndKind, n: usize, axis: usize, z: &mut [i64]) -> bool
     requires { ⌜ OnSheet (now s) kind n axis × Reached (now s) axis (now z) ⌝ }
     ensures numbers { λ r. ⌜ now (z .exit) ≡ systems.pass (rows (course (now (s .entry)) axis)) 65536 (now (z .entry)) ⌝ }
     ensures settled { λ r. ⌜ (r ≡ false → now (z .exit) ≡ now (z .entry)) ⌝ }
 {
-    let ends = ends_have_rows(kind);
-    let mut changed = false;
-    if ends {
-        changed = turn(s, kind, n, axis, 0, z);
-    }
+    let mut changed = turn(s, kind, n, axis, 0, z);
     let mut left = z[0];
     let mut i = 1;
     while i + 1 < n {
@@ -77,13 +63,10 @@ fn pass(s: &[u8], kind: EndKind, n: usize, axis: usize, z: &mut [i64]) -> bool
         }
         i = i + 1;
     }
-    if ends {
-        return turn(s, kind, n, axis, i, z) | changed;
-    }
-    changed
+    turn(s, kind, n, axis, i, z) | changed
 }
 
-// 01: "All Z start at 0."
+// L3 starts from zeros.
 fn clear(z: &mut [i64])
     ensures { λ _. ⌜ now (z .exit) ≡ replicate (length (now (z .entry))) (pos 0) ⌝ }
 {
@@ -94,7 +77,7 @@ fn clear(z: &mut [i64])
     }
 }
 
-// 01: "There are 40 passes." After a pass that changed nothing the others would change nothing either.
+// L3: forty passes. After one that changed nothing the others would change nothing either.
 pub fn lay_axis(s: &[u8], kind: EndKind, n: usize, axis: usize, z: &mut [i64])
     requires { ⌜ OnSheet (now s) kind n axis × (length (now z) ≡ n) ⌝ }
     ensures { λ _. ⌜ now (z .exit) ≡ bends (course (now (s .entry)) axis) ⌝ }

@@ -1,93 +1,75 @@
 -- `layout::pass::pass` meets its contract: each turn, at an end or between, is one step of the pass (`Through` of proofs/Sweep), and all numbers stay small
 -- because they are those of some count of passes from zeros.
 use mathlib.Core.Path.{_≡_, refl, sym, ap, _∙_, subst}
-use mathlib.Core.Bool.{Bool, true, false, cond, _||_, false≢true}
+use mathlib.Core.Bool.{Bool, true, false, _||_, false≢true}
 use mathlib.Core.List.{List}
 use mathlib.Core.Logic.{⊎-elim}
 use Prim.Native.Nat.{ℕ, _+_, _-_, _≤_, _<_}
 use native.Mathlib.Omega.{arith}
 use lib.IntN.{ℤ, pos, _-ℤ_}
-use lib.ListN.{length, set}
+use lib.ListN.{set}
 use mir.Syntax.{w64}
 use mir.Val.{toZ}
-use Rattle.ends.specs.declared.EndKind.{EndKind}
 use Rattle.sheet.proofs.Below.{or-left, or-right}
 use Rattle.systems.specs.Passes.{at, renewed}
 use Rattle.spline.specs.Spline.{Course, prev, rows}
 use Rattle.layout.specs.Course.{course}
-use Rattle.layout.specs.Inside.{skipped, Small, AllSmall}
+use Rattle.layout.specs.Inside.{Small, AllSmall}
 use Rattle.layout.proofs.Given.{two-points, few-points, prev-fits}
 use Rattle.integers.proofs.Made.{read, passed}
 use Rattle.integers.proofs.Tried.{Tried, tried}
 use Rattle.layout.proofs.Neighbours.{prev-later, next-inner}
-use Rattle.layout.proofs.Sweep.{Through, skipped-few, between, kept, unmoved, at-set, turn-renews, start-length}
+use Rattle.layout.proofs.Rows.{inner-present}
+use Rattle.layout.proofs.Sweep.{Through, between, kept, unmoved, at-set, turn-renews, turn-present, start-length}
 use Rattle.layout.proofs.Sweep.{through-start, through-small, through-turn, through-end}
 use Rattle.layout.proofs.pass.pass.Statement.{statement}
 use Rattle.layout.proofs.pass.pass.Tie as tie
 
--- the loop goes on from where the first waypoint's turn, or none, left the pass
+-- the loop goes on from where the first waypoint's turn left the pass
 abbrev Inv-loop : tie.InvT-loop
-Inv-loop s kind n axis z₀ ends changed₀ left₀ i₀ z changed left i =
-    (1 ≤ i) × (i + 1 ≤ n) × ((zs : List ℤ) → Through s kind n axis zs z₀ changed₀ 1 → Through s kind n axis zs z changed i)
-    × (toZ w64 left ≡ at z (prev (course s axis) i))
+Inv-loop s kind n axis z₀ changed₀ left₀ i₀ z changed left i =
+    (1 ≤ i) × (i + 1 ≤ n) × ((zs : List ℤ) → Through s axis zs z₀ changed₀ 1 → Through s axis zs z changed i) × (toZ w64 left ≡ at z (prev (course s axis) i))
 
 abbrev μ-loop : tie.MeasureT-loop
-μ-loop s kind n axis z₀ ends changed₀ left₀ i₀ z changed left i = n - i
-
-ends-have-rows-requires : tie.Need-ends-have-rows-requires Inv-loop μ-loop
-ends-have-rows-requires c κs = tt
+μ-loop s kind n axis z₀ changed₀ left₀ i₀ z changed left i = n - i
 
 -- how far this call has come
 abbrev Come : tie.Start Inv-loop μ-loop → List ℤ → Bool → ℕ → Type 0
-Come s z changed i = Through (s .args .s .now) (s .args .kind) (s .args .n) (s .args .axis) (s .args .z .now) z changed i
+Come s z changed i = Through (s .args .s .now) (s .args .axis) (s .args .z .now) z changed i
 
-begin : (s : tie.Start Inv-loop μ-loop) (i : ℕ) → i ≡ skipped (s .args .kind) → Come s (s .args .z .now) false i
-begin s = through-start (s .pre .0) (s .args .z .now)
-
-come-small : (s : tie.Start Inv-loop μ-loop) {z : List ℤ} {changed : Bool} {i : ℕ} → Come s z changed i → AllSmall (s .args .n) z
+come-small : (s : tie.Start Inv-loop μ-loop) {z : List ℤ} {changed : Bool} {i : ℕ} → Come s z changed i → i ≤ s .args .n → AllSmall (s .args .n) z
 come-small s = through-small (s .pre .0) (s .pre .1)
 
--- the ends have rows, or are left out
-module _ (k : tie.After-ends-have-rows Inv-loop μ-loop) where
-  abbrev kind : EndKind
-  kind = k .before .before .args .kind
-
-  skips : (b : Bool) → k .ends-have-rows .result ≡ b → cond b 0 1 ≡ skipped kind
-  skips b e = ap (λ r. cond r 0 1) (sym e ∙ k .ends-have-rows .ensures)
-
 turn-requires : tie.Need-turn-requires Inv-loop μ-loop
-turn-requires c κs =
-    let k = c .before .before in let s = k .before .before in let e = skips k true (c .before .if1 .taken) in
-    (s .pre .0, (omega arith, omega (arith, two-points (s .pre .0))), come-small s (begin s 0 e))
+turn-requires c κs = let s = c .before .before in (s .pre .0, (λ h. absurd (omega arith)), come-small s (through-start (s .args .z .now)) (omega arith))
 
 -- the first waypoint is passed
-begun : (c : tie.Joined1 Inv-loop μ-loop) → Come (c .before .before .before) (c .if1 .z) (c .if1 .changed) 1
-begun c =
-    let k = c .before in let s = k .before .before in let o = s .pre .0 in
-    ⊎-elim
-    (λ w.
-    let e = skips k true (w .0 .taken) in
-    through-turn o (begin s 0 e) (omega (arith, two-points o)) (c .if1 .z) (w .4 ∙ w .2 .ensures .0) (c .if1 .changed)
-    (λ f. (refl, w .4 ∙ w .2 .ensures .1 (sym (w .5) ∙ f))))
-    (λ w. rw (w .1, w .2) (begin s 1 (skips k false (w .0 .left))))
-    (c .if1 .came)
+module _ (c : tie.After-turn Inv-loop μ-loop) where
+  abbrev first : tie.Start Inv-loop μ-loop
+  first = c .before .before .before
 
-begun-small : (c : tie.Joined1 Inv-loop μ-loop) → AllSmall (c .before .before .before .args .n) (c .if1 .z)
-begun-small c = come-small (c .before .before .before) (begun c)
+  abbrev z₁ : List ℤ
+  z₁ = c .turn .last .1 .1 .1 .1 .1 .0
+
+  begun : Come first z₁ (c .turn .result) 1
+  begun = through-turn (through-start (first .args .z .now)) z₁ (c .turn .ensures .0) (c .turn .result) (λ e. (refl, c .turn .ensures .1 e))
+
+  begun-small : AllSmall (first .args .n) z₁
+  begun-small = come-small first begun (omega (arith, two-points (first .pre .0)))
 
 slice-copy-out-left : tie.Need-slice-copy-out-left Inv-loop μ-loop
-slice-copy-out-left c = omega (arith, begun-small c .size, two-points (c .before .before .before .pre .0))
+slice-copy-out-left c = let t = c .before in omega (arith, begun-small t .size, two-points (first t .pre .0))
 
 loop-holds : tie.Need-loop-holds Inv-loop μ-loop
 loop-holds c =
-    let b = c .before in let s = b .before .before .before in let two = two-points (s .pre .0) in
-    let first = ap (at (b .if1 .z)) (prev-later (course (s .args .s .now) (s .args .axis)) 1 (omega arith)) in
-    (omega arith, omega (arith, two), λ zs t. t, kept (begun-small b) 0 (omega (arith, two)) ∙ first)
+    let t = c .before .before in let s = first t in let two = two-points (s .pre .0) in
+    let left = ap (at (z₁ t)) (prev-later (course (s .args .s .now) (s .args .axis)) 1 (omega arith)) in
+    (omega arith, omega (arith, two), λ zs r. r, kept (begun-small t) 0 (omega (arith, two)) ∙ left)
 
 -- in a turn at i
 module _ (a : tie.At-loop Inv-loop μ-loop) where
   abbrev s : tie.Start Inv-loop μ-loop
-  s = a .before .before .before .before .before
+  s = first (a .before .before .before)
 
   abbrev z : List ℤ
   z = a .loop .z
@@ -96,10 +78,10 @@ module _ (a : tie.At-loop Inv-loop μ-loop) where
   c-of = course (s .args .s .now) (s .args .axis)
 
   come : Come s z (a .loop .changed) (a .loop .i)
-  come = a .loop .inv .2 (s .args .z .now) (begun (a .before .before))
+  come = a .loop .inv .2 (s .args .z .now) (begun (a .before .before .before))
 
   small : AllSmall (s .args .n) z
-  small = come-small s come
+  small = come-small s come (omega (arith, a .loop .inv .1))
 
 add-loop : tie.Need-add-loop Inv-loop μ-loop
 add-loop a = omega (arith, few-points (s a .pre .0), a .loop .inv .1)
@@ -145,8 +127,8 @@ add-i c = add-loop (c .before .before .before .before .before .before)
 loop-less : tie.Need-loop-less Inv-loop μ-loop
 loop-less c = omega (arith, c .before .before .before .before .before .loop-test .taken)
 
--- the number worked out is the step's; it is set, or is there already
-module _ (c : tie.Joined2 Inv-loop μ-loop) where
+-- the number worked out is the definition's; it is set, or is there already
+module _ (c : tie.Joined1 Inv-loop μ-loop) where
   abbrev f : tie.After-renewed Inv-loop μ-loop
   f = c .before
 
@@ -173,14 +155,14 @@ module _ (c : tie.Joined2 Inv-loop μ-loop) where
       passed (f .renewed .ensures) (f .renewed .ok) ∙ turn-renews o (z a) i (row .result) _ _ (row .ensures .0) (a .loop .inv .3) right
 
   -- tried where 0 becomes 1: the left neighbour is the new number
-  left-tried : x ≡ pos 1 → at (z a) i ≡ pos 0 → toZ w64 (c .if2 .left) -ℤ at (z a) i ≡ pos 1
+  left-tried : x ≡ pos 1 → at (z a) i ≡ pos 0 → toZ w64 (c .if1 .left) -ℤ at (z a) i ≡ pos 1
   left-tried p q = ⊎-elim
       (λ w. ap (λ v. toZ w64 v -ℤ at (z a) i) (w .3 ∙ sym (w .0 .taken)) ∙ simp (p, q) refl)
       (λ w. ap (λ v. toZ w64 v -ℤ at (z a) i) (w .3) ∙ simp (p, q) refl)
-      (c .if2 .came)
+      (c .if1 .came)
 
-  turned : (c .if2 .z ≡ set (z a) i (renewed (rows (c-of a)) 65536 (z a) i)) × (c .if2 .changed ≡ false → (a .loop .changed ≡ false) × (c .if2 .z ≡ z a))
-      × (toZ w64 (c .if2 .left) ≡ at (c .if2 .z) i)
+  turned : (c .if1 .z ≡ set (z a) i (renewed (rows (c-of a)) 65536 (z a) i)) × (c .if1 .changed ≡ false → (a .loop .changed ≡ false) × (c .if1 .z ≡ z a))
+      × (toZ w64 (c .if1 .left) ≡ at (c .if1 .z) i)
   turned = ⊎-elim
       (λ w. (
         w .1 ∙ sym (unmoved (small a) x i fits (w .0 .taken)) ∙ ap (set (z a) i) new,
@@ -192,29 +174,26 @@ module _ (c : tie.Joined2 Inv-loop μ-loop) where
         λ e. absurd (false≢true (sym e ∙ w .2)),
         ap (toZ w64) (w .3) ∙ sym (ap (λ (m : List ℤ). at m i) (w .1) ∙ at-set (small a) (read x) i fits),
       ))
-      (c .if2 .came)
+      (c .if1 .came)
 
 loop-again : tie.Need-loop-again Inv-loop μ-loop
 loop-again c =
-    let g = s (a c) in let (set-to, same, left) = turned c in
-    let few : i c + skipped (g .args .kind) < g .args .n = omega (arith, skipped-few (g .args .kind), l c .loop-test .taken) in (
+    let g = s (a c) in let (set-to, same, left) = turned c in let o = g .pre .0 in
+    let inner = inner-present o (i c) (between (g .args .kind) (g .args .n) (i c) (a c .loop .inv .0) (l c .loop-test .taken)) in (
       omega arith,
       omega (arith, l c .loop-test .taken),
-      λ zs t. through-turn (g .pre .0) (a c .loop .inv .2 zs t) few (c .if2 .z) set-to (c .if2 .changed) same,
-      left ∙ ap (at (c .if2 .z)) (omega (arith, prev-later (c-of (a c)) (i c + 1) (omega arith))),
+      λ zs t. through-turn (a c .loop .inv .2 zs t) (c .if1 .z) (set-to ∙ sym (turn-present o (z (a c)) (i c) inner)) (c .if1 .changed) same,
+      left ∙ ap (at (c .if1 .z)) (omega (arith, prev-later (c-of (a c)) (i c + 1) (omega arith))),
     )
 
 -- after the loop: the last waypoint
-in-length : (b : tie.At-loop Inv-loop μ-loop) → length (z b) ≡ length (s b .args .z .now)
-in-length b = small b .size ∙ sym (start-length (s b .pre .0) (s b .args .z .now) (s b .pre .1))
-
 turn-requires-2 : tie.Need-turn-requires-2 Inv-loop μ-loop
-turn-requires-2 c κs =
-    let b = c .before .before .before in let e = skips (b .before .before .before) true (c .before .if3 .taken) in
-    (s b .pre .0, (omega arith, omega (arith, b .loop .inv .1)), small b)
+turn-requires-2 c κs = let b = c .before .before in (s b .pre .0, (λ h. omega (arith, b .loop .inv .1, c .before .loop-test .left)), small b)
 
 same-length : tie.Need-same-length Inv-loop μ-loop
-same-length c = let f = c .before in f .turn2 .kept .1 .1 .1 .1 .1 .0 ∙ in-length (f .before .before .before .before)
+same-length c =
+    let f = c .before in let b = f .before .before .before in
+    f .turn2 .kept .1 .1 .1 .1 .1 .0 ∙ small b .size ∙ sym (start-length (s b .pre .0) (s b .args .z .now) (s b .pre .1))
 
 -- tried: a last turn that changed a number is answered
 module _ (c : tie.After-z2 Inv-loop μ-loop) where
@@ -233,19 +212,10 @@ module _ (c : tie.After-z2 Inv-loop μ-loop) where
 
 returns : tie.Need-returns Inv-loop μ-loop
 returns c =
-    let f = c .before in let d = f .before .before in let b = d .before .before in
-    let e = skips (b .before .before .before) true (d .if3 .taken) in let (number, settled) = f .turn2 .ensures in
-    let r = f .turn2 .result in let ch = b .loop .changed in
-    let last = through-turn (s b .pre .0) (come b) (omega (arith, b .loop .inv .1)) _ number (r || ch) (λ g. (or-right r ch g, settled (or-left r ch g))) in
-    through-end (s b .pre .0) last (omega (arith, d .before .loop-test .left))
-
-same-length-2 : tie.Need-same-length-2 Inv-loop μ-loop
-same-length-2 c = in-length (c .before .before)
-
-returns-2 : tie.Need-returns-2 Inv-loop μ-loop
-returns-2 c =
-    let b = c .before .before in
-    through-end (s b .pre .0) (come b) (omega (arith, skips (b .before .before .before) false (c .if3 .left), c .before .loop-test .left))
+    let f = c .before in let d = f .before .before in let b = d .before in
+    let (number, settled) = f .turn2 .ensures in let r = f .turn2 .result in let ch = b .loop .changed in
+    let last = through-turn (come b) _ number (r || ch) (λ g. (or-right r ch g, settled (or-left r ch g))) in
+    through-end (s b .pre .0) last (omega (arith, b .loop .inv .1, d .loop-test .left))
 
 pub pass-spec : {M : Type 1} → statement M
 pass-spec =
@@ -253,7 +223,6 @@ pass-spec =
     (tie.spec
     Inv-loop
     μ-loop
-    ends-have-rows-requires
     turn-requires
     slice-copy-out-left
     loop-holds
@@ -272,6 +241,4 @@ pass-spec =
     loop-again
     turn-requires-2
     same-length
-    returns
-    same-length-2
-    returns-2)
+    returns)

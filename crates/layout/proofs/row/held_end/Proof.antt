@@ -26,7 +26,7 @@ module _ (s : tie.Start) where
   e : Made (s .args .e) (s .args .e) 2_000_000
   e = given refl (s .pre .1) tt
 
-  p : Made (s .args .p) (s .args .p) 1_000_000
+  p : Made (s .args .p) (s .args .p) 5_000
   p = given refl (s .pre .2) tt
 
 mul-t4 : tie.Need-mul-t4

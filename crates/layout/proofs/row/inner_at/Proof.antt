@@ -40,11 +40,11 @@ before-requires c κs = fits (c .before)
 end-of-requires : tie.Need-end-of-requires
 end-of-requires c κs = fits (c .before .before)
 
-step-at-requires : tie.Need-step-at-requires
-step-at-requires c κs = let s = c .before .before .before in (s .pre .0, fits s, c .end-of .ensures .1)
+value-step-requires : tie.Need-value-step-requires
+value-step-requires c κs = let s = c .before .before .before in (s .pre .0, fits s, c .end-of .ensures .1)
 
-step-at-requires-2 : tie.Need-step-at-requires-2
-step-at-requires-2 c κs = let s = c .before .before .before .before in (s .pre .0, c .before .before .before2 .ensures .0, fits s)
+value-step-requires-2 : tie.Need-value-step-requires-2
+value-step-requires-2 c κs = let s = c .before .before .before .before in (s .pre .0, c .before .before .before2 .ensures .0, fits s)
 
 leg-at-requires : tie.Need-leg-at-requires
 leg-at-requires c κs =
@@ -64,8 +64,8 @@ returns c =
     let S = s .args .s .now in let v = waypoint S (s .args .axis) in let l = c .before .before .leg-at in let m = c .before .leg-at2 in
     let gs = passed (l .ensures .0) (l .ok) ∙ ap (λ (j : ℕ). pos (leg S j)) (p-is p) in
     let hs = passed (m .ensures .0) (m .ok) in
-    let ds = passed (d .step-at .ensures .0) (d .step-at .ok) ∙ ap (λ (j : ℕ). v j -ℤ v (i s)) (q-is q) in
-    let es = passed (e .step-at2 .ensures .0) (e .step-at2 .ok) ∙ ap (λ (j : ℕ). v (i s) -ℤ v j) (p-is p) in (
+    let ds = passed (d .value-step .ensures .0) (d .value-step .ok) ∙ ap (λ (j : ℕ). v j -ℤ v (i s)) (q-is q) in
+    let es = passed (e .value-step2 .ensures .0) (e .value-step2 .ok) ∙ ap (λ (j : ℕ). v (i s) -ℤ v j) (p-is p) in (
       c .inner .ensures .0
           ∙ (λ j. codeRow (innerRow 2 1 (natAbs (gs j)) (natAbs (hs j)) (ds j) (es j)))
           ∙ sym (ap codeRow (inner-row (s .pre .0) (i s) (s .pre .1))),
@@ -75,4 +75,4 @@ returns c =
 pub inner-at-spec : {M : Type 1} → statement M
 inner-at-spec =
     tie.close
-    (tie.spec before-requires end-of-requires step-at-requires step-at-requires-2 leg-at-requires leg-at-requires-2 inner-requires returns)
+    (tie.spec before-requires end-of-requires value-step-requires value-step-requires-2 leg-at-requires leg-at-requires-2 inner-requires returns)

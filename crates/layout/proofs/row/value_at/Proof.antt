@@ -1,4 +1,4 @@
--- `layout::row::value_at` meets its contract: its twelve bytes lie within the sheet, whose length is that of the formula.
+-- `layout::row::value_at` meets its contract: its bytes lie within the sheet, whose length is S9's.
 use mathlib.Core.Path.{_≡_, _∙_}
 use native.Mathlib.Omega.{arith}
 use Rattle.sheet.specs.Fields.{waypoint}

@@ -1,10 +1,10 @@
--- `layout::row::step_at` meets its contract: two values up to 1,000,000 differ by at most 2,000,000.
+-- `layout::row::value_step` meets its contract: two values up to 1,000,000 differ by at most 2,000,000.
 use borrow.Author.Needs.{needs}
 use lib.IntN.{_-ℤ_}
 use Rattle.sheet.specs.Fields.{waypoint}
 use Rattle.integers.proofs.Made.{read, Made, fits, read-back, small, returned, minus}
-use Rattle.layout.proofs.row.step_at.Statement.{statement}
-use Rattle.layout.proofs.row.step_at.Tie as tie
+use Rattle.layout.proofs.row.value_step.Statement.{statement}
+use Rattle.layout.proofs.row.value_step.Tie as tie
 
 value-at-requires : tie.Need-value-at-requires
 value-at-requires c κs = search needs
@@ -23,5 +23,5 @@ sub-result c = fits (made c)
 returns : tie.Need-returns
 returns c = (read-back (made c), small (made c))
 
-pub step-at-spec : {M : Type 1} → statement M
-step-at-spec = tie.close (tie.spec value-at-requires value-at-requires-2 sub-result returns)
+pub value-step-spec : {M : Type 1} → statement M
+value-step-spec = tie.close (tie.spec value-at-requires value-at-requires-2 sub-result returns)
