@@ -1,16 +1,17 @@
 -- What `layOut` and `laidOut` are (specs/Layout) where the sheet is refused, where the list is short, and where all is well.
-use mathlib.Core.Path.{_≡_, ap, _∙_}
+use mathlib.Core.Path.{_≡_, refl, ap, _∙_}
 use mathlib.Core.Bool.{Bool, cond}
-use mathlib.Core.List.{List, _++_}
+use mathlib.Core.List.{List, [], _∷_, _++_}
 use Prim.Native.Nat.{ℕ, _*_, _≤_, _<_}
 use native.Mathlib.Omega.{arith}
 use borrow.Author.Tests.{lt-ltb, le-ltb, ne-eqb}
 use lib.Dec.{eqb}
-use lib.IntN.{ℤ}
-use lib.ListN.{length, drop}
+use lib.IntN.{ℤ, pos}
+use lib.ListN.{length, drop, replicate}
 use Rattle.sheet.specs.Answers.{Told, numberOf, refused}
 use Rattle.sheet.specs.Fields.{kind, points, ticks}
-use Rattle.sheet.specs.Reading.{readSheet, Accepted}
+use Rattle.sheet.specs.Bytes.{be16, be32, signed32, anyBelow, sumBelow}
+use Rattle.sheet.specs.Reading.{readBy, readSheet, Accepted}
 use Rattle.sheet.specs.declared.Refusal.{Refusal}
 use Rattle.sheet.specs.declared.Refusal.the-variants.{Shelf}
 use Rattle.sheet.specs.declared.Reading.{Reading}
@@ -18,7 +19,15 @@ use Rattle.sheet.specs.declared.Reading.the-variants.{Course, Refused}
 use Rattle.sheet.proofs.Laws.{accepted-read}
 use Rattle.sheet.proofs.Told.{number-positive}
 use Rattle.answers.specs.Answers.{done, passOn, guard}
+use Rattle.systems.specs.Passes.{step, sweep, pass, passes}
+use Rattle.spline.specs.Spline.{freeRow, along, rowOf, rowsBy}
+use Rattle.layout.specs.Course.{course}
 use Rattle.layout.specs.Layout.{allBends, short, layOut, laidOut}
+
+-- tried at W9 with a list of seven: its last entry stays
+rest-tried : laidOut (0 ∷ 0 ∷ 0 ∷ 34 ∷ 1 ∷ 0 ∷ 0 ∷ 2 ∷ 0 ∷ 1 ∷ replicate 24 0) (replicate 7 (pos 7)) ≡ replicate 6 (pos 0) ++ pos 7 ∷ []
+unfolding step sweep pass passes be16 be32 signed32 anyBelow sumBelow readBy freeRow along rowOf rowsBy course allBends layOut laidOut
+rest-tried = refl
 
 module _ (s : List ℕ) (room : ℕ) where
   -- the reader's answer decides first

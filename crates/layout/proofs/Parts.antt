@@ -1,4 +1,4 @@
--- A list that is filled from the front part by part, each part lent on its own and put back: "north fills the first N places of the lent list, east the next N".
+-- A list that is filled from the front part by part, each part lent on its own and put back (L5). For `lay_axes`.
 use mathlib.Core.Path.{_≡_, refl, sym, ap, _∙_}
 use mathlib.Core.List.{List, [], _++_, append-assoc}
 use Prim.Native.Nat.{ℕ, _+_, _-_, _*_, _≤_}

@@ -1,7 +1,8 @@
--- Rows as the code makes them (src/row.rt): four numbers that are those of a row of 01, and small enough for what is worked out from them.
+-- Rows as the code makes them (src/row.rt): four numbers that are those of a row, and small enough for what is worked out from them.
 use mathlib.Core.Path.{_≡_, refl, sym}
 use mathlib.Core.List.{[], _∷_}
-use Prim.Native.Nat.{ℕ, _≤_}
+use Prim.Native.Nat.{ℕ, _*_, _≤_}
+use native.Mathlib.Nat.{mul-pos}
 use native.Mathlib.Omega.{arith}
 use lib.Dec.{T, leb, leb→le}
 use lib.IntN.{ℤ, pos, natAbs, _*ℤ_}
@@ -11,7 +12,7 @@ use Rattle.integers.proofs.Ring.{solve, _≋_, _⊗_, #_}
 use Rattle.systems.specs.Rows as systems
 use Rattle.layout.specs.Inside.{codeRow, Leg, Sized}
 use Rattle.layout.specs.declared.row.Row.{Row}
-use Rattle.integers.proofs.Made.{read, Made, read-back, small, given}
+use Rattle.integers.proofs.Made.{read, Made, read-back, small, given, times}
 
 module _ {h : ℤ} (l : Leg h) where
   leg-pos : h ≡ pos (natAbs h)
@@ -29,6 +30,26 @@ zero = given refl (omega arith) tt
 
 pub two : Made (pos 2) (pos 2) 2
 two = given refl (omega arith) tt
+
+-- what a held end's row is made of: products of its leg h, and the leg times the slope p
+module _ {h : ℤ} (l : Leg h) where
+  abbrev a : ℤ
+  a = pos (natAbs h)
+
+  pub square : Made (read h *ℤ read h) (a *ℤ a) 65_536
+  square = times (leg-made l) (leg-made l) tt
+
+  pub doubled : Made (read (pos 2) *ℤ read h) (pos 2 *ℤ a) 512
+  doubled = times two (leg-made l) tt
+
+  pub twice : Made (read (read (pos 2) *ℤ read h) *ℤ read h) (pos 2 *ℤ a *ℤ a) 131_072
+  twice = times doubled (leg-made l) tt
+
+  pub rise : (p : ℤ) → natAbs p ≤ 5_000 → Made (read h *ℤ read p) (a *ℤ p) 1_280_000
+  rise p slope = times (leg-made l) (given {y = p} refl slope tt) tt
+
+  pub twice-some : 1 ≤ 2 * natAbs h * natAbs h
+  twice-some = let some = leg-some l in mul-pos (mul-pos (omega arith) some) some
 
 -- the right side of a row is taken once
 pub once : {y x : ℤ} {B : ℕ} → Made y x B → Made y (pos 1 *ℤ x) B

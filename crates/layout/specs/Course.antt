@@ -1,4 +1,4 @@
--- The course that a sheet's bytes describe on an axis: 0 is north, 1 east, 2 up (01, The sheet and Rows).
+-- The course that a sheet's bytes describe on an axis: 0 is north, 1 east, 2 up. Everything from laying out on speaks of the sheet through it.
 use mathlib.Core.List.{List}
 use Prim.Native.Nat.{ℕ}
 use Rattle.sheet.specs.Fields.{kind, points, leg, waypoint, slope}

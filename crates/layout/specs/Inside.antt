@@ -1,4 +1,4 @@
--- What the functions inside laying out say of each other. No promise of `lay_out` rests on these words.
+-- What the functions inside laying out ask and promise of each other. The promise of `lay_out` names none of these words.
 use mathlib.Core.Path.{_≡_}
 use mathlib.Core.Bool.{true, false}
 use mathlib.Core.List.{List}

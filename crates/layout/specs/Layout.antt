@@ -1,4 +1,4 @@
--- Laying out: answer and list, refused calls too (01, Laying out bend numbers and Named numbers). It computes: the starred Z of 01 follow by evaluation.
+-- Laying out (A3, L5): answer and list, of refused calls too. It computes: the worked courses' bend numbers follow by evaluation.
 use mathlib.Core.Bool.{Bool, cond}
 use mathlib.Core.List.{List, _++_}
 use Prim.Native.Nat.{ℕ, _*_}
@@ -13,18 +13,18 @@ use Rattle.answers.specs.Answers.{done, passOn, guard}
 use Rattle.spline.specs.Spline.{bends}
 use Rattle.layout.specs.Course.{course}
 
--- 01: "North fills the first N places of the lent list, east the next N, up the N after those"; each axis by 40 passes from zeros
+-- L3, L5: N bend numbers of each axis, north first
 unfoldable pub allBends : List ℕ → List ℤ
 allBends s = bends (course s 0) ++ bends (course s 1) ++ bends (course s 2)
 
--- number 9: "the list of bend numbers has fewer than 3N places"
+-- N9, asked of the length `room` of a lent list
 abbrev pub short : List ℕ → ℕ → Bool
 short s room = ltb room (3 * points s)
 
--- 01: "Laying out tests 1 to 9; it .. answer[s] only that [it is] done." `room` is the list's length.
+-- A3: the answer
 unfoldable pub layOut : List ℕ → ℕ → Told
 layOut s room = passOn (readSheet s) (guard (short s room) Shelf done)
 
--- 01: "places beyond 3N keep what they held"; of a refused call: "lists .. keep what they held"
+-- L5, A9: the list afterwards; a refused call leaves it whole
 unfoldable pub laidOut : List ℕ → List ℤ → List ℤ
 laidOut s list = cond (eqb (layOut s (length list) .number) 0) (allBends s ++ drop (3 * points s) list) list

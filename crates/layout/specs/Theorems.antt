@@ -1,4 +1,4 @@
--- What is proved of laying out, beside the promise of `lay_out`.
+-- What is proved of laying out beside the promise of `lay_out`. Demand 3 rests on it.
 use mathlib.Core.List.{List}
 use Prim.Native.Nat.{ℕ, _<_}
 use Rattle.sheet.specs.Fields.{points}
@@ -12,7 +12,7 @@ use Rattle.layout.specs.Course.{course}
 abbrev pub CourseInBounds : Type 0
 CourseInBounds = (s : List ℕ) → Accepted s → (axis : ℕ) → axis < 3 → InBounds (course s axis)
 
--- 01: "It follows, and is wanted, that each Z is within 9/8 of 65,536 times the exact bend."
+-- L6
 abbrev pub LaidOutNear : Type 0
 LaidOutNear = (s : List ℕ) → Accepted s → (axis : ℕ) → axis < 3 → (e : Curve) → Exact (course s axis) e
     → (i : ℕ) → i < points s → Eighths 9 (course s axis) e i (at (bends (course s axis)) i)

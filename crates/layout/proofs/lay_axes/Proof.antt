@@ -17,7 +17,7 @@ use Rattle.layout.proofs.Parts.{three-parts}
 use Rattle.layout.proofs.lay_axes.Statement.{statement}
 use Rattle.layout.proofs.lay_axes.Tie as tie
 
--- tried at 01's "Held, one leg of 4, values 0, 16" on the east axis, a sheet that is cut after its last byte above 0: east stands from place 2
+-- tried at W5 on the east axis, on a sheet that is cut after its last byte above 0: east stands from entry 2
 east-tried : allBends (replicate 4 0 ++ 1 ∷ 1 ∷ 0 ∷ 2 ∷ 0 ∷ 4 ∷ replicate 19 0 ++ 16 ∷ [])
     ≡ pos 0 ∷ pos 0 ∷ pos 65536 ∷ negsuc 65535 ∷ pos 0 ∷ pos 0 ∷ []
 unfolding floor rounded target renewed turn sweep pass passes be16 be32 signed32 next prev stepAfter stepBefore heldStartRow heldEndRow along rowOf rowsBy course allBends

@@ -1,11 +1,12 @@
 -- `layout::lay_out` meets its contract: the reader's answer tells whether the sheet is refused or accepted, and then the list's length decides.
-use mathlib.Core.Path.{_≡_, sym, ap, _∙_}
-use mathlib.Core.List.{List, _++_}
+use mathlib.Core.Path.{_≡_, refl, sym, ap, _∙_}
+use mathlib.Core.List.{List, [], _∷_, _++_}
 use Prim.Native.Nat.{ℕ, _*_, _<_}
 use native.Mathlib.Omega.{arith}
 use borrow.Author.Needs.{needs}
-use lib.IntN.{ℤ}
+use lib.IntN.{ℤ, pos}
 use lib.ListN.{length, drop}
+use Rattle.integers.proofs.Tried.{Tried, tried}
 use Rattle.ends.specs.declared.EndKind.{EndKind}
 use Rattle.sheet.specs.Answers.{refused}
 use Rattle.sheet.specs.Fields.{kind, points}
@@ -15,8 +16,8 @@ use Rattle.sheet.specs.declared.Reading.the-variants.{Refused}
 use Rattle.sheet.proofs.Told.{told-injective}
 use Rattle.sheet.proofs.Laws.{course-read, accepted-bounds}
 use Rattle.layout.specs.Inside.{OnSheet}
-use Rattle.layout.specs.Layout.{allBends}
-use Rattle.layout.proofs.Given.{few-points}
+use Rattle.layout.specs.Layout.{allBends, layOut}
+use Rattle.layout.proofs.Given.{two-points, few-points}
 use Rattle.layout.proofs.Outcomes.{refused-answer, short-answer, done-answer, refused-list, done-list}
 use Rattle.layout.proofs.lay_out.Statement.{statement}
 use Rattle.layout.proofs.lay_out.Tie as tie
@@ -46,6 +47,12 @@ module _ (r : tie.After-reading) where
 
   on-sheet : (axis : ℕ) → axis < 3 → OnSheet S k n axis
   on-sheet axis h = record { bounds = accepted-bounds S (accepted .0); sameKind = accepted .1; samePoints = accepted .2; axisFits = h }
+
+-- tried where 9 applies to a list that holds 5: it still holds it
+short-tried : (c : tie.Then1) → let r = c .before .before in L r ≡ pos 5 ∷ [] → layOut (S r) (length (L r)) ≡ refused Shelf → Tried
+short-tried c e f =
+    let r = c .before .before in
+    tried (λ (need : tie.Need-returns-2). need c .1) (simp e refl ∙ sym e ∙ sym (refused-list (S r) (L r) Shelf f))
 
 read-requires : tie.Need-read-requires
 read-requires c κs = search needs
@@ -77,7 +84,7 @@ returns-2 c =
     (sym f, sym (refused-list (S r) (L r) Shelf f))
 
 lay-axes-requires : tie.Need-lay-axes-requires
-lay-axes-requires c κs = let e = c .before in (on-sheet (e .before .before), e .if1 .left)
+lay-axes-requires c κs = let e = c .before in let o = on-sheet (e .before .before) in (o, omega (arith, e .if1 .left, two-points (o 0 (omega arith))))
 
 same-length : tie.Need-same-length
 same-length c = search needs

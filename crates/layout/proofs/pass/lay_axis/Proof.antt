@@ -1,5 +1,5 @@
 -- `layout::pass::lay_axis` meets its contract: after each turn the numbers are those of as many passes from zeros. After a pass that changed nothing they are
--- those of 40 passes already, by `early-end` of crate systems.
+-- those of forty passes already, by `early-end` of crate systems.
 use mathlib.Core.Path.{_≡_, refl, sym, ap, _∙_}
 use mathlib.Core.Bool.{false}
 use Prim.Native.Nat.{ℕ, _-_, _≤_}
@@ -36,6 +36,10 @@ module _ (a : tie.At-loop Inv-loop μ-loop) where
   same-size : length (a .loop .z) ≡ length (start .args .z .now)
   same-size =
       ap length (a .loop .inv .1) ∙ passes-length (start .args .s .now) (start .args .axis) (a .loop .done) ∙ sym (start .pre .1 ∙ start .pre .0 .samePoints)
+
+-- tried after forty passes: there is no other
+no-more-tried : (l : tie.In-loop Inv-loop μ-loop) → l .before .loop .done ≡ 40 → ⊥
+no-more-tried l e = omega (arith, l .loop-test .taken)
 
 pass-requires : tie.Need-pass-requires Inv-loop μ-loop
 pass-requires c κs = let a = c .before .before in (start a .pre .0, record { count = a .loop .done; numbers = a .loop .inv .1 })

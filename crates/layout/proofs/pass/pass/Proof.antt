@@ -41,7 +41,7 @@ come-small : (s : tie.Start Inv-loop μ-loop) {z : List ℤ} {changed : Bool} {i
 come-small s = through-small (s .pre .0) (s .pre .1)
 
 turn-requires : tie.Need-turn-requires Inv-loop μ-loop
-turn-requires c κs = let s = c .before .before in (s .pre .0, (λ h. absurd (omega arith)), come-small s (through-start (s .args .z .now)) (omega arith))
+turn-requires c κs = let s = c .before .before in (s .pre .0, (λ h. omega (arith, two-points (s .pre .0))), come-small s (through-start (s .args .z .now)) (omega arith))
 
 -- the first waypoint is passed
 module _ (c : tie.After-turn Inv-loop μ-loop) where
@@ -82,6 +82,10 @@ module _ (a : tie.At-loop Inv-loop μ-loop) where
 
   small : AllSmall (s .args .n) z
   small = come-small s come (omega (arith, a .loop .inv .1))
+
+-- past the loop stands the last waypoint
+ended : (d : tie.After-loop Inv-loop μ-loop) → d .before .loop .i + 1 ≡ s (d .before) .args .n
+ended d = omega (arith, d .before .loop .inv .1, d .loop-test .left)
 
 add-loop : tie.Need-add-loop Inv-loop μ-loop
 add-loop a = omega (arith, few-points (s a .pre .0), a .loop .inv .1)
@@ -188,7 +192,7 @@ loop-again c =
 
 -- after the loop: the last waypoint
 turn-requires-2 : tie.Need-turn-requires-2 Inv-loop μ-loop
-turn-requires-2 c κs = let b = c .before .before in (s b .pre .0, (λ h. omega (arith, b .loop .inv .1, c .before .loop-test .left)), small b)
+turn-requires-2 c κs = let b = c .before .before in (s b .pre .0, (λ h. ended (c .before)), small b)
 
 same-length : tie.Need-same-length Inv-loop μ-loop
 same-length c =
@@ -215,7 +219,7 @@ returns c =
     let f = c .before in let d = f .before .before in let b = d .before in
     let (number, settled) = f .turn2 .ensures in let r = f .turn2 .result in let ch = b .loop .changed in
     let last = through-turn (come b) _ number (r || ch) (λ g. (or-right r ch g, settled (or-left r ch g))) in
-    through-end (s b .pre .0) last (omega (arith, b .loop .inv .1, d .loop-test .left))
+    through-end (s b .pre .0) last (ended d)
 
 pub pass-spec : {M : Type 1} → statement M
 pass-spec =

@@ -1,5 +1,5 @@
 -- `layout::row::end_row` meets its contract: free ends have no row; a held course's have their own, a closed course's are inner ones.
-use mathlib.Core.Path.{sym, ap, _∙_, subst}
+use mathlib.Core.Path.{refl, sym, ap, _∙_, subst}
 use borrow.Author.Needs.{needs}
 use Rattle.ends.specs.declared.EndKind.{EndKind}
 use Rattle.spline.specs.Spline.{rowOf}
@@ -28,7 +28,7 @@ inner-at-requires c κs =
     (s .pre .0, subst (λ (k : EndKind). Inner k (g .n) (g .i)) (sym (c .enum-told3 .given .1)) (end-fits (s .pre .0) (g .i) (s .pre .1)))
 
 returns : tie.Need-returns
-returns c = let s = c .before .before .before in free-absent (s .pre .0) (c .enum-told .given .1) (s .args .i) (s .pre .1)
+returns c = let s = c .before .before .before in simp (free-absent (s .pre .0) (c .enum-told .given .1) (s .args .i) (s .pre .1)) refl
 
 returns-2 : tie.Need-returns-2
 returns-2 c =

@@ -5,7 +5,7 @@ use native.Mathlib.Omega.{arith}
 use borrow.Author.Needs.{needs}
 use lib.IntN.{ℤ, pos, natAbs, _-ℤ_}
 use Rattle.ends.specs.declared.EndKind.the-variants.{Held}
-use Rattle.sheet.specs.Fields.{leg, waypoint}
+use Rattle.sheet.specs.Fields.{leg, waypoint, slope}
 use Rattle.spline.specs.Spline.{Course, stepAfter, stepBefore, heldStartRow, heldEndRow, rowOf}
 use Rattle.layout.specs.Course.{course}
 use Rattle.layout.specs.Inside.{codeRow}
@@ -22,6 +22,11 @@ module _ (s : tie.Start) where
 
   abbrev v : ℕ → ℤ
   v = waypoint (s .args .s .now) (s .args .axis)
+
+-- tried where the course starts at slope 3 and ends at slope 5
+slopes-tried : (c : tie.After-slope-at) → let g = c .before .before .before .before .before .args in
+    slope (g .s .now) (g .axis) 0 ≡ pos 3 → slope (g .s .now) (g .axis) 1 ≡ pos 5 → c .slope-at .result ≡ pos 3
+slopes-tried c a b = c .slope-at .ensures .0 ∙ simp (a, b) refl
 
 value-step-requires : tie.Need-value-step-requires
 value-step-requires c κs = let o = c .before .before .pre .0 in (o, omega (arith, two-points o), omega (arith, two-points o))

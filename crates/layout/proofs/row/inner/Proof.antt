@@ -1,4 +1,4 @@
--- `layout::row::inner` meets its contract: with legs up to 256 and value steps up to 2,000,000 no product leaves 64 bits, so each number is 01's.
+-- `layout::row::inner` meets its contract: with legs up to 256 and value steps up to 2,000,000 no product leaves 64 bits, so each number is R2's.
 use mathlib.Core.Path.{_≡_, refl}
 use native.Mathlib.Nat.{mul-pos}
 use native.Mathlib.Omega.{arith}
@@ -12,7 +12,7 @@ use Rattle.layout.proofs.RowMade.{leg-some, leg-made, two, once, row-ma
 use Rattle.layout.proofs.row.inner.Statement.{statement}
 use Rattle.layout.proofs.row.inner.Tie as tie
 
--- tried at 01's "Free, legs 1, 2, values 0, 0, 6": 2, 12, 4 and the right side 6
+-- tried at W4: 2, 12, 4 and the right side 6
 one-two : tie.Start
 one-two = record { args = record { g = pos 1; h = pos 2; d = pos 6; e = pos 0 }; good = search needs; fits = search needs; pre = search needs }
 
@@ -60,7 +60,7 @@ mul-t10 c = fits (times (h c) (e c) tt)
 sub-t11 : tie.Need-sub-t11
 sub-t11 c = fits (minus (times (g c) (d c) tt) (times (h c) (e c) tt) tt)
 
--- 01: "In each row the outer factors add up to half of the middle one"
+-- R6
 middle-is : (g h : ℤ) → pos 2 *ℤ (g *ℤ g *ℤ h +ℤ g *ℤ h *ℤ h) ≡ pos 2 *ℤ g *ℤ h *ℤ (g +ℤ h)
 middle-is = solve 2 (λ g h. # 2 ⊗ (g ⊗ g ⊗ h ⊕ g ⊗ h ⊗ h) ≋ # 2 ⊗ g ⊗ h ⊗ (g ⊕ h)) tt
 
