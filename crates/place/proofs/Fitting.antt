@@ -1,5 +1,5 @@
 -- What a runner that fits an accepted sheet gives the code: indices within the bytes and the list, and numbers within the limits that `position` asks for.
-use mathlib.Core.Path.{_≡_, ap}
+use mathlib.Core.Path.{_≡_}
 use mathlib.Core.Bool.{false, cond, _||_}
 use mathlib.Core.List.{List}
 use Prim.Native.Nat.{ℕ, suc, _+_, _*_, _^_, _≤_, _<_}

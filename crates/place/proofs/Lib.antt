@@ -1,3 +1,4 @@
+-- Why places hold: the numerator, indices and sizes, answers, the entry points; last the waypoints.
 pub mod Numerator
 pub mod Fitting
 pub mod Answer

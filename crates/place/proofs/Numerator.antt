@@ -1,4 +1,4 @@
--- The numerator of a position as the code makes it (src/position.rt) is 01's, and every number on the way fits 64 bits (DESIGN 3.3).
+-- The numerator of a position as the code makes it (src/position.rt) is P1's, and every number on the way fits 64 bits.
 -- The code takes h - u, h + u and 2h - u as natural numbers. The weights h + u and 2h - u add up to 3h, so that the bend part stays within 2^16 × 768 × 2^37.
 use mathlib.Core.Path.{_≡_, refl, ap}
 use mathlib.Core.List.{[], _∷_}

@@ -1,19 +1,15 @@
--- What the functions inside ask and answer: the numbers of `position`, what is known of sheet, list and runner when a place is worked out, and its last test.
+-- What the functions inside ask for: the numbers of `position`, and what is known of sheet, list and runner when a place is worked out.
 use mathlib.Core.Path.{_≡_}
 use mathlib.Core.Bool.{false}
 use mathlib.Core.List.{List}
 use Prim.Native.Nat.{ℕ, _^_, _≤_}
 use lib.IntN.{ℤ, natAbs}
 use lib.ListN.{length}
-use Rattle.sheet.specs.Answers.{Told}
 use Rattle.sheet.specs.Fields.{points, legs}
 use Rattle.sheet.specs.Reading.{Accepted}
-use Rattle.sheet.specs.declared.Refusal.the-variants.{Bend}
-use Rattle.answers.specs.Answers.{guard}
 use Rattle.layout.specs.Layout.{short}
 use Rattle.runner.specs.Steps.{adrift}
 use Rattle.runner.specs.declared.Runner.{Runner}
-use Rattle.place.specs.Places.{bendOutside, placed}
 
 -- a leg and an offset on it, waypoint numbers within reach and bend numbers within 12's limits: with these nothing overflows 64 bits
 pub record OnLeg (h u : ℕ) (v w z y : ℤ) : Type 0 where
@@ -32,7 +28,3 @@ pub record Fitting (s : List ℕ) (list : List ℤ) (n l : ℕ) (r : Runner) : T
   pub is-legs : l ≡ legs s
   pub room : short s (length list) ≡ false
   pub fits : adrift s r ≡ false
-
--- where none of 1 to 11 applies: 12, or the place
-abbrev pub bendOrPlace : List ℕ → List ℤ → Runner → Told
-bendOrPlace s list r = guard (bendOutside s list (r .leg)) Bend (placed s list r)

@@ -1,4 +1,4 @@
--- What is proved of places beside the promises of the entry points (demand 2: "every waypoint is met exactly"; place by tick is the place by the tick's runner).
+-- What is proved of places beside the promises of the entry points: waypoints are met (P5), and the place by tick is the place by the tick's runner.
 use mathlib.Core.Path.{_≡_}
 use mathlib.Core.Bool.{true, false}
 use mathlib.Core.List.{List, [], _∷_}
@@ -13,7 +13,7 @@ use Rattle.layout.specs.Layout.{short}
 use Rattle.runner.specs.Ticks.{runner, isOpen, reduced, past, spotAt}
 use Rattle.place.specs.Places.{endOf, bendOutside, placeOn, placeAtTick, placeOfRunner}
 
--- at a leg's offset 0 the place is the waypoint at its start, at full offset the waypoint at its end: on every axis, whatever the bend numbers
+-- P5, of a leg: at offset 0 its first waypoint, at full offset its second, on every axis and whatever the bend numbers
 abbrev pub LegEndsMet : Type 0
 LegEndsMet = (s : List ℕ) → Accepted s → (list : List ℤ) (i : ℕ) → i < legs s → (axis : ℕ)
     → (placeOn s list (runner i 0) axis ≡ waypoint s axis i) × (placeOn s list (runner i (leg s i)) axis ≡ waypoint s axis (endOf s i))
@@ -26,13 +26,13 @@ met s i = record { number = 0; values = waypoint s 0 i ∷ waypoint s 1 i ∷ wa
 abbrev pub tickOfWaypoint : List ℕ → ℕ → ℕ
 tickOfWaypoint s i = sumBelow (leg s) i
 
--- 01: "every waypoint is met exactly", by tick (closed: modulo P), for any bend numbers that are within 12's limits at the tick's leg
+-- P5, by tick (closed: modulo P), for any bend numbers within N12's limits at the tick's leg
 abbrev pub WaypointMetAtTick : Type 0
 WaypointMetAtTick = (s : List ℕ) → Accepted s → (list : List ℤ) → short s (length list) ≡ false
     → (i : ℕ) → i < points s → (t : ℕ) → reduced (kind s) (ticks s) t ≡ tickOfWaypoint s i
     → bendOutside s list (spotAt s t .leg) ≡ false → placeAtTick s list t ≡ met s i
 
--- and by runner: at a leg's start, and at the end of an open course
+-- P5, by runner: at a leg's start, and at the end of an open course
 abbrev pub WaypointMetByRunner : Type 0
 WaypointMetByRunner = (s : List ℕ) → Accepted s → (list : List ℤ) → short s (length list) ≡ false
     → ((i : ℕ) → i < legs s → bendOutside s list i ≡ false → placeOfRunner s list (runner i 0) ≡ met s i)

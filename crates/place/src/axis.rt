@@ -1,4 +1,4 @@
-// The place's number on one axis (01, Places), straight from the sheet's bytes and the lent list. The axis is a parameter: 0 is north, 1 east, 2 up.
+// The place's number on one axis (P1), straight from the sheet's bytes and the lent list. The axis is a parameter: 0 is north, 1 east, 2 up.
 ghost use mathlib.Core.Path.{_≡_};
 ghost use mathlib.Core.Bool.{false};
 ghost use Prim.Native.Nat.{_<_};

@@ -1,4 +1,4 @@
-// The bend numbers in the lent list (01, Laying out: "North fills the first N places of the lent list, east the next N, up the N after those"), and the numbers 9 and 12.
+// The bend numbers in the lent list, axis after axis (L5), and what is tested of them: 9 and 12.
 ghost use mathlib.Core.Path.{_≡_};
 ghost use mathlib.Core.Bool.{_||_};
 ghost use Prim.Native.Nat.{_+_, _*_, _≤_, _<_};
@@ -8,7 +8,7 @@ ghost use Rattle.sheet.specs.Bytes.{anyBelow};
 ghost use Rattle.systems.specs.Passes.{at};
 ghost use Rattle.place.specs.Places.{beyond};
 
-// 9: "the list of bend numbers has fewer than 3N places"
+// N9.
 pub fn is_short(list: &[i64], points: usize) -> bool
     requires { ⌜ points ≤ 512 ⌝ }
     ensures { λ r. ⌜ r ≡ ltb (length (now (list .entry))) (3 * points) ⌝ }
@@ -24,14 +24,14 @@ pub fn bend_of(list: &[i64], points: usize, axis: usize, i: usize) -> i64
     list[axis * points + i]
 }
 
-// 12, of one number: "outside -2^37 to 2^37"
+// N12, of one number.
 fn is_beyond(z: i64) -> bool
     ensures { λ r. ⌜ r ≡ beyond z ⌝ }
 {
     (z < -137438953472) | (137438953472 < z)
 }
 
-// 12, on one axis: of the numbers at the leg's two ends
+// N12, on one axis: of the numbers at the leg's two waypoints.
 fn outside_on(list: &[i64], points: usize, axis: usize, start: usize, end: usize) -> bool
     requires { ⌜ (3 * points ≤ length (now list)) × (axis < 3) × (start < points) × (end < points) ⌝ }
     ensures { λ r. ⌜ r ≡ (beyond (at (now (list .entry)) (axis * points + start)) || beyond (at (now (list .entry)) (axis * points + end))) ⌝ }
@@ -39,7 +39,7 @@ fn outside_on(list: &[i64], points: usize, axis: usize, start: usize, end: usize
     is_beyond(bend_of(list, points, axis, start)) | is_beyond(bend_of(list, points, axis, end))
 }
 
-// 12: "one of the six bend numbers at the leg's two ends"
+// N12, on all axes.
 pub fn bend_outside(list: &[i64], points: usize, start: usize, end: usize) -> bool
     requires { ⌜ (3 * points ≤ length (now list)) × (start < points) × (end < points) ⌝ }
     ensures { λ r. ⌜ r ≡ anyBelow (λ axis. beyond (at (now (list .entry)) (axis * points + start)) || beyond (at (now (list .entry)) (axis * points + end))) 3 ⌝ }

@@ -1,12 +1,12 @@
-// Places (01, Places): the place by tick and the place by runner.
+// The place by tick and the place by runner (group P).
 mod axis;
 mod bends;
 mod position;
 
 ghost use mathlib.Core.Path.{_≡_};
 ghost use Rattle.sheet.specs.Answers.{refused};
-ghost use Rattle.place.specs.Asked.{Fitting, bendOrPlace};
-ghost use Rattle.place.specs.Places.{toldPlaced, placeHeld, placeAtTick, placeOfRunner};
+ghost use Rattle.place.specs.Asked.{Fitting};
+ghost use Rattle.place.specs.Places.{toldPlaced, placeHeld, bendOrPlace, placeAtTick, placeOfRunner};
 use answers::Outcome;
 use axis::place_on;
 use bends::bend_outside;
@@ -15,17 +15,18 @@ use runner::Runner;
 use sheet::Reading;
 use sheet::Refusal;
 
-// 01: "A place is three whole numbers, north, east and up".
+// P2, F1: north, east, up.
 pub struct Place {
     pub at: [i64; 3],
 }
 
-// The answer beside the place, since an enum cannot hold the array. A refusal leaves zeros in the place.
+// The answer beside the place, since an enum cannot hold the array. A refusal has zeros in the place.
 pub struct Placed {
     pub outcome: Outcome,
     pub place: Place,
 }
 
+// A9: the number alone.
 fn refused(refusal: Refusal) -> Placed
     ensures told { λ r. ⌜ toldPlaced r ≡ refused refusal ⌝ }
     ensures place { λ r. ⌜ r .place .at ≡ placeHeld (refused refusal) ⌝ }
@@ -61,7 +62,7 @@ fn place_at(s: &[u8], list: &[i64], points: usize, legs: usize, at: Runner) -> P
     }
 }
 
-// 01: "A place by tick tests 1 to 10 and 12."
+// A4: tests 1 to 10 and 12.
 pub fn place_at_tick(s: &[u8], list: &[i64], tick: u64) -> Placed
     ensures told { λ r. ⌜ toldPlaced r ≡ placeAtTick (now (s .entry)) (now (list .entry)) tick ⌝ }
     ensures place { λ r. ⌜ r .place .at ≡ placeHeld (placeAtTick (now (s .entry)) (now (list .entry)) tick) ⌝ }
@@ -86,7 +87,7 @@ pub fn place_at_tick(s: &[u8], list: &[i64], tick: u64) -> Placed
     place_at(s, list, points, legs, at)
 }
 
-// 01: "A place by runner tests 1 to 9, 11 and 12."
+// A5: tests 1 to 9, 11 and 12.
 pub fn place_of_runner(s: &[u8], list: &[i64], at: Runner) -> Placed
     ensures told { λ r. ⌜ toldPlaced r ≡ placeOfRunner (now (s .entry)) (now (list .entry)) at ⌝ }
     ensures place { λ r. ⌜ r .place .at ≡ placeHeld (placeOfRunner (now (s .entry)) (now (list .entry)) at) ⌝ }

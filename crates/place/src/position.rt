@@ -1,9 +1,9 @@
-// The position on a leg (01, Places): one function for all axes.
+// The position on a leg: one function for all axes.
 ghost use mathlib.Core.Path.{_≡_};
 ghost use Rattle.spline.specs.Position.{position};
 ghost use Rattle.place.specs.Asked.{OnLeg};
 
-// 01: "take 65,536 × (u×w + (h - u)×v). Subtract u×(h - u) × ((h + u)×Y + (2h - u)×Z) .. Divide by 65,536 × h and round by the same rule."
+// P1.
 pub fn position(h: u64, u: u64, v: i64, w: i64, z: i64, y: i64) -> i64
     requires { ⌜ OnLeg h u v w z y ⌝ }
     ensures { λ x. ⌜ x ≡ position h u v w z y ⌝ }

@@ -30,7 +30,7 @@ module _ (s : tie.Start) where
   fitting : Fitting sheet list (s .args .points) (s .args .legs) runner
   fitting = s .pre
 
--- the test of 12 is the paper's
+-- the test of 12 is the definition's
 bend-said : (c : tie.After-bend-outside) → let s = c .before .before .before in c .bend-outside .result ≡ bendOutside (sheet s) (list s) (runner s .leg)
 unfolding bendOutside
 bend-said c =

@@ -84,7 +84,7 @@ position-requires c κs =
     let fit = numbers-fit (fitting k) (k .pre .1 .0) (axis k) (axis-fits k) inside in
     omega (arith, h-is c, ap natAbs (v-is c), ap natAbs (w-is c), ap natAbs (z-is c), ap natAbs (y-is c))
 
--- tried at the numbers of 01's "Held, one leg of 4, values 0, 16, .. : Z 65,536, -65,536; tick 1"
+-- tried at the numbers of W5, tick 1
 held-tried : (c : tie.After-position) → let k = c .before in s k .args .h ≡ 4 → runner (s k) .offset ≡ 1
     → k .before .before .before .waypoint-on .result ≡ pos 0 → k .before .before .waypoint-on2 .result ≡ pos 16
     → k .before .bend-of .result ≡ pos 65536 → k .bend-of2 .result ≡ negsuc 65535

@@ -1,4 +1,4 @@
--- `place::position::position` meets its contract: all numbers fit, so that the quotient rounded is 01's.
+-- `place::position::position` meets its contract: all numbers fit, so that the quotient rounded is P1's.
 use mathlib.Core.Path.{refl, _∙_}
 use Prim.Native.Nat.{_*_}
 use native.Mathlib.Omega.{arith}
@@ -12,7 +12,7 @@ use Rattle.place.proofs.Numerator.{scale, past, left, sum, rest, whole,
 use Rattle.place.proofs.position.position.Statement.{statement}
 use Rattle.place.proofs.position.position.Tie as tie
 
--- tried at 01's "Held, one leg of 4, values 0, 16": "tick 1 gives 3"
+-- tried at W5: 3 at tick 1
 held-tried : tie.After-rounded
 unfolding floor rounded
 held-tried = record {
