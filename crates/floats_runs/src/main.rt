@@ -1,7 +1,6 @@
-// The station's bend numbers beside a separately written elimination in floats (01, Courses to try: "comparison with a separately written elimination
-// in floats"). Sheets come on standard input, one after another: the worked courses. Many more are made here. For each end kind one line says how
-// many sheets were compared, how far a bend number Z lies from 65,536 times its bend in floats at most, in eighths, rounded up to thousandths,
-// and whether all are within nine eighths.
+// W11: the station's bend numbers beside those of a second program, which eliminates in floats. Sheets come on standard input, one after another: the
+// worked courses. Many more are made here. For each end kind one line says how many sheets were compared, how far a bend number Z lies at most from
+// 65,536 times its bend in floats, in eighths, rounded up to thousandths, and whether all are within nine eighths (L6).
 mod elimination;
 mod rows;
 mod sheets;

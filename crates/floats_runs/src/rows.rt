@@ -1,4 +1,4 @@
-// 004's rows for the bends of one axis, in floats: divided through by the legs, not 01's whole ones.
+// 004's rows for the bends of one axis, in floats: divided through by the legs, unlike the whole ones of R2 to R5.
 ghost use Prim.Native.Nat.{_≤_, _<_};
 use ends::EndKind;
 

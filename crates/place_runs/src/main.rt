@@ -1,5 +1,5 @@
-// Places on 01's worked courses, a line to a call: every tick of the starred courses with the bend numbers that `lay_out` leaves, the last of the unsigned 64-bit
-// ticks, 12's limits, and refused calls, which leave zeros in the place. `stdout` was worked out from 01 by a program of its own.
+// Places on the worked courses, a line to a call: every tick of W1 to W9 with the bend numbers that `lay_out` leaves, 12's limits, and refused calls, which
+// leave zeros in the place. `stdout` was worked out from the requirements by a program of its own.
 use answers::Outcome;
 use libc::STDOUT_FILENO;
 use place::Placed;
@@ -7,7 +7,6 @@ use place::place_at_tick;
 use place::place_of_runner;
 use printing::print_signed;
 use runner::Runner;
-use sheet::Refusal;
 
 const LAST: u64 = 18446744073709551615;
 
@@ -18,31 +17,12 @@ fn print(text: &[u8]) {
     io::write_all(STDOUT_FILENO, text);
 }
 
-// 01, Named numbers.
-fn number_of(refusal: Refusal) -> u64 {
-    match refusal {
-        Refusal::Torn => 1,
-        Refusal::Edition => 2,
-        Refusal::Ends => 3,
-        Refusal::Points => 4,
-        Refusal::Size => 5,
-        Refusal::Leg => 6,
-        Refusal::Reach => 7,
-        Refusal::Slope => 8,
-        Refusal::Shelf => 9,
-        Refusal::Past => 10,
-        Refusal::Adrift => 11,
-        Refusal::Bend => 12,
-        Refusal::Landed => 13,
-    }
-}
-
 // The refusal's number, if there is one, and what stands in the place.
 fn show(placed: Placed) {
     let outcome = placed.outcome;
     if let Outcome::Refused(refusal) = outcome {
         print(b"refused ");
-        io::print_decimal(STDOUT_FILENO, number_of(refusal));
+        io::print_decimal(STDOUT_FILENO, sheet::number_of(refusal));
         print(b" with ");
     }
     let place = placed.place;
@@ -82,7 +62,7 @@ fn show_course(name: &[u8], s: &[u8], count: u64) {
     }
 }
 
-// Free: A, A with north negated, legs 1, 1, 1, legs 1, 2, and two waypoints. Each is asked one tick past its last.
+// W1 to W4 and W9, free. Each is asked one tick past its last.
 fn run_free(s: &[u8]) {
     show_course(b"A", s, 6);
     show_course(
@@ -107,7 +87,7 @@ fn run_free(s: &[u8]) {
     );
 }
 
-// Held, one leg of 4: both slopes 0, and both slopes 4.
+// W5 and W6, held.
 fn run_held() {
     show_course(
         b"slopes 0",
@@ -121,7 +101,7 @@ fn run_held() {
     );
 }
 
-// Closed, four legs of 2: twice round, the last tick of all, and runners that fit and do not.
+// W7 and W8, closed: twice round, the last tick of 64 bits, and runners that fit and do not.
 fn run_closed() {
     let s =
         b"\x00\x00\x00\x40\x01\x02\x00\x04\x00\x02\x00\x02\x00\x02\x00\x02\x00\x00\x00\x00\x00\x00\x00\x00\x00\x00\x00\x00\x00\x00\x00\x06\x00\x00\x00\x00\x00\x00\x00\x00\x00\x00\x00\x00\x00\x00\x00\x00\x00\x00\x00\x00\xff\xff\xff\xfa\x00\x00\x00\x00\x00\x00\x00\x00";
@@ -205,7 +185,7 @@ fn run_wide() {
     show_tick(s, &[-LIMIT; 6], 256);
 }
 
-// The lowest number where several apply: 9 before 10, 11 and 12, 10 and 11 before 12, and the reader's before all.
+// A1, where several numbers apply: 9 before 10, 11 and 12, 10 and 11 before 12, and the reader's before all.
 fn run_refused(s: &[u8]) {
     print(b"refused\n");
     let list = [LIMIT + 1; 9];
