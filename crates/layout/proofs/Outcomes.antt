@@ -19,14 +19,14 @@ use Rattle.sheet.specs.declared.Reading.the-variants.{Course, Refused}
 use Rattle.sheet.proofs.Laws.{accepted-read}
 use Rattle.sheet.proofs.Told.{number-positive}
 use Rattle.answers.specs.Answers.{done, passOn, guard}
-use Rattle.systems.specs.Passes.{step, sweep, pass, passes}
+use Rattle.systems.specs.Passes.{turn, sweep, pass, passes}
 use Rattle.spline.specs.Spline.{freeRow, along, rowOf, rowsBy}
 use Rattle.layout.specs.Course.{course}
 use Rattle.layout.specs.Layout.{allBends, short, layOut, laidOut}
 
 -- tried at W9 with a list of seven: its last entry stays
 rest-tried : laidOut (0 ∷ 0 ∷ 0 ∷ 34 ∷ 1 ∷ 0 ∷ 0 ∷ 2 ∷ 0 ∷ 1 ∷ replicate 24 0) (replicate 7 (pos 7)) ≡ replicate 6 (pos 0) ++ pos 7 ∷ []
-unfolding step sweep pass passes be16 be32 signed32 anyBelow sumBelow readBy freeRow along rowOf rowsBy course allBends layOut laidOut
+unfolding turn sweep pass passes be16 be32 signed32 anyBelow sumBelow readBy freeRow along rowOf rowsBy course allBends layOut laidOut
 rest-tried = refl
 
 module _ (s : List ℕ) (room : ℕ) where

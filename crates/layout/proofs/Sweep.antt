@@ -15,8 +15,9 @@ use Rattle.ends.specs.declared.EndKind.{EndKind}
 use Rattle.ends.specs.declared.EndKind.the-variants.{Free, Held, Closed}
 use Rattle.rounding.specs.Rounded.{rounded}
 use Rattle.systems.specs.Rows.{Row, Rows}
-use Rattle.systems.specs.Passes.{at, target, renewed, step, sweep, pass}
-use Rattle.systems.proofs.Lists.{step-present, step-absent, sweep-next, length-sweep}
+use Rattle.systems.specs.Passes.{at, target, renewed, turn, sweep, pass}
+use Rattle.systems.proofs.Lists as systems
+use Rattle.systems.proofs.Lists.{sweep-next, length-sweep}
 use Rattle.spline.specs.Spline.{Course, next, prev, rowOf, rowsBy, rows}
 use Rattle.spline.proofs.Bends.{bends-bounded}
 use Rattle.layout.specs.Course.{course}
@@ -59,11 +60,11 @@ module _ {s : List ℕ} {axis : ℕ} where
   through-start z₀ = record { swept = refl; same = λ e. refl }
 
   pub through-turn : {z₀ z : List ℤ} {changed : Bool} {i : ℕ} → Through s axis z₀ z changed i
-      → (z' : List ℤ) → z' ≡ step (rows (course s axis)) 65536 z i
+      → (z' : List ℤ) → z' ≡ turn (rows (course s axis)) 65536 z i
       → (now : Bool) → (now ≡ false → (changed ≡ false) × (z' ≡ z)) → Through s axis z₀ z' now (i + 1)
   through-turn {z₀} {i = i} t z' e now f =
       let R = rows (course s axis) in record {
-        swept = e ∙ ap (λ (l : List ℤ). step R 65536 l i) (t .swept) ∙ sym (ap (λ (m : ℕ). sweep R 65536 m z₀) (add-one i) ∙ sweep-next R 65536 i z₀);
+        swept = e ∙ ap (λ (l : List ℤ). turn R 65536 l i) (t .swept) ∙ sym (ap (λ (m : ℕ). sweep R 65536 m z₀) (add-one i) ∙ sweep-next R 65536 i z₀);
         same = λ g. f g .1 ∙ t .same (f g .0);
       }
 
@@ -88,11 +89,11 @@ module _ {s : List ℕ} {k : EndKind} {n axis : ℕ} (o : OnSheet s k n axis) wh
       λ j. rounded (pos 65536 *ℤ f j .right -ℤ f j .before *ℤ l j -ℤ f j .after *ℤ q j) (natAbs (f j .middle))
 
   -- the turn where there is a row, and where there is none
-  pub turn-present : (zs : List ℤ) (i : ℕ) → rowOf 2 1 k c i .present ≡ true → step R 65536 zs i ≡ set zs i (renewed R 65536 zs i)
-  turn-present zs i e = step-present R 65536 zs i (ap (λ (r : Row). r .present) (row-is i) ∙ e)
+  pub turn-present : (zs : List ℤ) (i : ℕ) → rowOf 2 1 k c i .present ≡ true → turn R 65536 zs i ≡ set zs i (renewed R 65536 zs i)
+  turn-present zs i e = systems.turn-present R 65536 zs i (ap (λ (r : Row). r .present) (row-is i) ∙ e)
 
-  pub turn-absent : (zs : List ℤ) (i : ℕ) → rowOf 2 1 k c i .present ≡ false → step R 65536 zs i ≡ zs
-  turn-absent zs i e = step-absent R 65536 zs i (ap (λ (r : Row). r .present) (row-is i) ∙ e)
+  pub turn-absent : (zs : List ℤ) (i : ℕ) → rowOf 2 1 k c i .present ≡ false → turn R 65536 zs i ≡ zs
+  turn-absent zs i e = systems.turn-absent R 65536 zs i (ap (λ (r : Row). r .present) (row-is i) ∙ e)
 
   pub through-end : {z₀ z : List ℤ} {changed : Bool} {i : ℕ} → Through s axis z₀ z changed i → i ≡ n → (z ≡ pass R 65536 z₀) × (changed ≡ false → z ≡ z₀)
   unfolding pass rowsBy course

@@ -27,7 +27,7 @@ fn renewed(row: Row, left: i64, next: i64) -> i64
 // The turn at the first or the last waypoint; where the ends are free there is none. Answers whether its number changed.
 fn turn(s: &[u8], kind: EndKind, n: usize, axis: usize, i: usize, z: &mut [i64]) -> bool
     requires { ⌜ OnSheet (now s) kind n axis × AtEnd n i × AllSmall n (now z) ⌝ }
-    ensures number { λ r. ⌜ now (z .exit) ≡ systems.step (rows (course (now (s .entry)) axis)) 65536 (now (z .entry)) i ⌝ }
+    ensures number { λ r. ⌜ now (z .exit) ≡ systems.turn (rows (course (now (s .entry)) axis)) 65536 (now (z .entry)) i ⌝ }
     ensures settled { λ r. ⌜ (r ≡ false → now (z .exit) ≡ now (z .entry)) ⌝ }
 {
     let end = row::end_row(s, kind, n, axis, i);
