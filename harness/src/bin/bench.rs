@@ -3,10 +3,12 @@
 //!
 //! Ratios are within one run: each comparison runs its candidates in turn, a short block of calls each, for many rounds, and takes each
 //! candidate's quickest blocks. There are eight different sheets of each form, so that no candidate learns one by heart.
-//! bench [--milliseconds N (for each comparison)] [--seed S] [--only TEXT (lines with this text)]. A busy machine blurs the ratios: it prints its load.
+//! harness/usage/bench lists the options. A busy machine blurs the ratios: it prints its load. The targets are our own; nobody asked for
+//! them, and no test rests on them.
 
 use harness::boundary::{Calls, BASE, CAREFUL, LIBRARY};
 use harness::model::{self, Kind};
+use harness::options::Given;
 use harness::pcuspl::Pcuspl;
 use harness::random::Random;
 use harness::sheets::{self, Draft, CLOSED, FREE};
@@ -14,7 +16,7 @@ use std::hint::black_box;
 use std::ops::Range;
 use std::time::Instant;
 
-/// Targets of the request, as the most that a ratio may be.
+/// The targets that we set ourselves, as the most that a ratio may be.
 const OVER_BASE: f64 = 0.95;
 const OVER_CAREFUL: f64 = 1.05;
 const SMALL_OVER_BASE: f64 = 1.3;
@@ -203,16 +205,26 @@ fn spread(random: &mut Random, kind: u8, n: usize, leg: impl Fn(&mut Random) -> 
 }
 
 fn main() {
-    let words: Vec<String> = std::env::args().collect();
-    let argument = |name: &str| words.iter().position(|word| word == name).map(|at| words[at + 1].clone());
-    let number = |name: &str, default: u64| argument(name).map_or(default, |word| word.parse().expect("a number"));
-    let seed = number("--seed", 1);
-    let seconds = number("--milliseconds", 1500) as f64 / 1000.0;
-    let mut bench = Bench { seconds, only: argument("--only").unwrap_or_default(), missed: 0 };
-    let mut random = Random::new(seed);
+    let given = Given::new(include_str!("../../usage/bench"));
+    let seed = given.number("--seed").unwrap_or(1);
+    let seconds = given.number("--milliseconds").unwrap_or(1500) as f64 / 1000.0;
+    let mut bench = Bench { seconds, only: given.text("--only").unwrap_or_default(), missed: 0 };
     println!("bench: library {}, seed {seed}, {} s a comparison, quickest blocks of each candidate", harness::LIBRARY, bench.seconds);
     println!("machine: {}", machine());
-    println!("{:<44} {:>12}   {:<25} over careful C", "call", "library", "over plain C");
+    println!("{:<44} {:>12}   {:<25} over careful C   (in brackets: our own targets)", "call", "library", "over plain C");
+    let (open, three, laid) = forms(seed);
+    time_calls(&mut bench, &open, &three, &laid);
+    println!("against 004's PCUSPL and SEVAL in C (floats, nothing tested; no target): library over 004");
+    for form in laid[..2].iter().flatten() {
+        against_pcuspl(&bench, form);
+    }
+    println!("bench: {} of our own targets missed", bench.missed);
+}
+
+/// The sheets: open ones of N = 64 and 512; closed ones of N = 3; for laying out pairs of N = 64 and 512 with legs alike, with mixed ones,
+/// and the slowest.
+fn forms(seed: u64) -> ([Form; 2], Form, Vec<[Form; 2]>) {
+    let mut random = Random::new(seed);
 
     let mut form = |name: &str, n: usize| {
         Form::new(name, n, || match name {
@@ -222,12 +234,16 @@ fn main() {
             _ => sheets::chain(&mut random, n, 60),
         })
     };
-    let (small, large) = (form("open", 64), form("open", 512));
+    let open = [form("open", 64), form("open", 512)];
     let three = form("mixed", 3);
-    let laid: Vec<[Form; 2]> = ["alike", "mixed", "worst"].map(|name| [form(name, 64), form(name, 512)]).into();
+    let laid = ["alike", "mixed", "worst"].map(|name| [form(name, 64), form(name, 512)]).into();
+    (open, three, laid)
+}
 
+/// The six calls on all forms, and how they grow.
+fn time_calls(bench: &mut Bench, [small, large]: &[Form; 2], three: &Form, laid: &[[Form; 2]]) {
     let mut places = vec![];
-    for form in [&large, &small, &three] {
+    for form in [large, small, three] {
         bench.call("read", form, Call::Read);
         places.push(bench.call("place at the last tick", form, Call::PlaceAtLastTick));
         bench.call("place of a runner", form, Call::PlaceOfRunner);
@@ -235,13 +251,13 @@ fn main() {
         bench.call("step", form, Call::Step);
     }
     let mut per_pass = vec![];
-    for [small, large] in &laid {
+    for [small, large] in laid {
         for form in [large, small] {
             let time = bench.call(&format!("lay out ({:.1} passes)", form.passes), form, Call::LayOut);
             per_pass.push(time.map(|time| time / form.passes));
         }
     }
-    bench.call(&format!("lay out ({:.1} passes)", three.passes), &three, Call::LayOut);
+    bench.call(&format!("lay out ({:.1} passes)", three.passes), three, Call::LayOut);
 
     bench.growth("place at the last tick", places[0], places[1]);
     // (not on the worst sheets: of both sizes 60 waypoints are the chain)
@@ -249,14 +265,6 @@ fn main() {
         let name = small.name.trim_start_matches("N = 64, ");
         bench.growth(&format!("lay out, a pass, {name}"), per_pass[2 * i], per_pass[2 * i + 1]);
     }
-
-    println!("against 004's PCUSPL and SEVAL in C (floats, nothing tested; no target): library over 004");
-    for [small, large] in &laid[..2] {
-        for form in [small, large] {
-            against_pcuspl(&bench, form);
-        }
-    }
-    println!("bench: {} targets missed", bench.missed);
 }
 
 /// The processor's name and the load, where Linux tells them.
