@@ -46,6 +46,7 @@ fn main() {
     compile(&here, &out, "base.c", "base", &[]);
     compile(&here, &out, "careful.c", "careful", &["-O3"]);
     compile(&here, &out, "pcuspl.c", "pcuspl", &[]);
+    compile(&here, &out, "header.c", "header", &[]);
 
     let default = here.join("../target/staticlib/libstation.a").display().to_string();
     let library = env::var("STATION_LIBRARY").unwrap_or(default);

@@ -1,6 +1,6 @@
-/* Plain C of 01's calls, as one writes it from the paper: the baseline of the benchmark (gcc -O2) and the stand-in for the library
- * while that is not there (then compiled a second time with the names station_*). Numbers are read from the sheet's bytes where they
- * are needed; laying out ends early after a pass that changed nothing. */
+/* The calls in plain C, as one writes them from docs/REQUIREMENTS.md: the baseline of the benchmark (gcc -O2) and the stand-in for the
+ * library (then compiled a second time with the names station_*), on which the mutants are tried. Numbers are read from the sheet's
+ * bytes where they are needed; laying out ends early after a pass that changed nothing. */
 #ifndef NAME
 #define NAME(call) base_##call
 #endif
@@ -77,7 +77,7 @@ static uint64_t read_course(const uint8_t *s, size_t length, struct course *c)
     return STATION_DONE;
 }
 
-/* n / d for d > 0, to the nearest, a half going up. */
+/* L4: n / d for d > 0. */
 static int64_t rounded(int64_t n, int64_t d)
 {
     int64_t quotient = n / d;
@@ -178,7 +178,7 @@ static uint64_t place(const struct course *c, const int64_t *list, uint64_t leg,
     for (uint64_t axis = 0; axis < 3; axis++) {
         int64_t v = value_at(c, leg, axis), w = value_at(c, end, axis);
         int64_t z = list[axis * c->n + leg], y = list[axis * c->n + end];
-        int64_t numerator = 65536 * (u * w + (h - u) * v) - u * (h - u) * ((h + u) * y + (2 * h - u) * z);
+        int64_t numerator = 65536 * (u * w + (h - u) * v) - u * (h - u) * ((2 * h - u) * z + (h + u) * y);
         out[axis] = rounded(numerator, 65536 * h);
     }
     return STATION_DONE;

@@ -1,5 +1,6 @@
 /* The six calls of include/station.h over five parts, which base.c and careful.c write each in its own way. The file that includes this
- * one says by NAME what its calls are called. ROOM and NO_RUNNER are the answers where a lent slice is too short, from src/room.rs; nothing is written then. */
+ * one says by NAME what its calls are called. ROOM and NO_RUNNER are the answers where a lent slice is too short, from src/room.rs;
+ * nothing is written then. */
 #include "station.h"
 
 struct course {

@@ -1,4 +1,4 @@
-/* C of 01's calls written with care for speed, the algorithm unchanged: byte loads that merge into one, ranges asked by one unsigned
+/* The calls in C written with care for speed, the algorithm unchanged: byte loads that merge into one, ranges asked by one unsigned
  * comparison and gathered without a branch, a row's factors worked out once for the three axes, the number just set carried along as
  * the next row's left neighbour, rounding without a branch. An axis at a time, each row with its one division; laying out ends
  * early after a pass that changed nothing. Compiled with gcc -O3. */
@@ -64,7 +64,7 @@ static uint64_t read_course(const uint8_t *s, size_t length, struct course *c)
     return STATION_DONE;
 }
 
-/* n / d to the nearest, a half going up, for an even d > 0: half of d added first, then rounded down. */
+/* L4: n / d for an even d > 0: half of d added first, then rounded down. */
 static inline int64_t rounded(int64_t n, int64_t d)
 {
     int64_t t = n + d / 2;
@@ -186,7 +186,7 @@ static uint64_t place(const struct course *c, const int64_t *list, uint64_t leg,
     for (uint64_t axis = 0; axis < 3; axis++) {
         int64_t v = value_at(c, leg, axis), w = value_at(c, end, axis);
         int64_t z = list[axis * n + leg], y = list[axis * n + end];
-        out[axis] = rounded(65536 * (u * w + rest * v) - slack * ((h + u) * y + (h + rest) * z), 65536 * h);
+        out[axis] = rounded(65536 * (u * w + rest * v) - slack * ((h + rest) * z + (h + u) * y), 65536 * h);
     }
     return STATION_DONE;
 }

@@ -2,7 +2,6 @@
 
 use crate::model;
 use crate::room::{NO_RUNNER, ROOM};
-use crate::station::raw;
 
 /// One implementation of the six calls.
 pub struct Calls {
@@ -31,19 +30,21 @@ macro_rules! c_calls {
 }
 
 c_calls! {
+    station_read station_lay_out station_place_at_tick station_place_of_runner station_runner_at_tick station_step;
     base_read base_lay_out base_place_at_tick base_place_of_runner base_runner_at_tick base_step;
     careful_read careful_lay_out careful_place_at_tick careful_place_of_runner careful_runner_at_tick careful_step;
+    structs_read structs_lay_out structs_place_at_tick structs_place_of_runner structs_runner_at_tick structs_step;
 }
 
 /// The station's library.
 pub const LIBRARY: Calls = Calls {
     name: "library",
-    read: raw::station_read,
-    lay_out: raw::station_lay_out,
-    place_at_tick: raw::station_place_at_tick,
-    place_of_runner: raw::station_place_of_runner,
-    runner_at_tick: raw::station_runner_at_tick,
-    step: raw::station_step,
+    read: station_read,
+    lay_out: station_lay_out,
+    place_at_tick: station_place_at_tick,
+    place_of_runner: station_place_of_runner,
+    runner_at_tick: station_runner_at_tick,
+    step: station_step,
 };
 
 /// c/base.c.
@@ -68,6 +69,17 @@ pub const CAREFUL: Calls = Calls {
     step: careful_step,
 };
 
+/// The library by the header's functions over structs (c/header.c).
+pub const STRUCTS: Calls = Calls {
+    name: "station.h's structs",
+    read: structs_read,
+    lay_out: structs_lay_out,
+    place_at_tick: structs_place_at_tick,
+    place_of_runner: structs_place_of_runner,
+    runner_at_tick: structs_runner_at_tick,
+    step: structs_step,
+};
+
 /// Any of the six calls with all that is lent to it.
 #[derive(Clone, Debug)]
 pub enum Call {
@@ -82,7 +94,7 @@ pub enum Call {
 /// The names of the calls, by [`Call::index`].
 pub const NAMES: [&str; 6] = ["read", "lay_out", "place_at_tick", "place_of_runner", "runner_at_tick", "step"];
 
-/// 01: "Reading tests 1 to 8 ..", by [`Call::index`]; and the answers where what is lent is too short.
+/// A2 to A7: the numbers that each call tests, by [`Call::index`]; and the answers where what is lent is too short.
 pub const TESTS: [&[u64]; 6] = [
     &[1, 2, 3, 4, 5, 6, 7, 8, ROOM],
     &[1, 2, 3, 4, 5, 6, 7, 8, 9],

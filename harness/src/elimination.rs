@@ -1,5 +1,5 @@
 //! The exact bends in floats: 004's rows and 004's elimination (PTRI) for closed courses, the usual elimination without corners (Thomas)
-//! for open ones. 004's form of the rows, divided through by g and h, not 01's.
+//! for open ones (W11). The rows have 004's form here, divided through by g and h.
 
 use crate::model::{Course, Kind};
 
@@ -7,7 +7,7 @@ use crate::model::{Course, Kind};
 pub fn bends(course: &Course, axis: usize) -> Vec<f64> {
     let n = course.n;
     let h: Vec<f64> = course.legs.iter().map(|leg| *leg as f64).collect();
-    // "Delta(i) = (v(i+1) - v(i)) / h(i)"
+    // 004's Delta
     let delta: Vec<f64> = (0..h.len()).map(|i| (course.points[(i + 1) % n][axis] - course.points[i][axis]) as f64 / h[i]).collect();
     match course.kind {
         Kind::Closed => {

@@ -1,5 +1,5 @@
-//! The exact spline of small courses in whole numbers of any size, and demand 3 held against it: 01's properties of the spline are
-//! tested one by one, so that nothing here rests on the rows by which it was found.
+//! The exact spline of small courses in whole numbers of any size, and D3 held against it: E1 to E4 are tested one by one, so that
+//! nothing here rests on the rows by which it was found.
 
 use crate::model::Course;
 use std::cmp::Ordering;
@@ -144,7 +144,7 @@ fn solved(mut rows: Vec<Vec<Whole>>, mut right: Vec<Whole>) -> (Whole, Vec<Whole
 }
 
 impl Spline {
-    /// The spline on one axis, by 01's rows.
+    /// The spline on one axis, found by the rows R2 to R5.
     pub fn of(course: &Course, axis: usize) -> Spline {
         let n = course.n;
         let mut rows = vec![vec![0; n]; n];
@@ -197,8 +197,7 @@ impl Spline {
         &k2.times(2) + &k3.times(6 * u)
     }
 
-    /// 01: it "meets both waypoints of its leg, agrees in first and second derivative with the next leg at each shared waypoint
-    /// (closed: at every one), and fulfils the end condition: second derivative 0, or the given slope".
+    /// E1 to E4, without a look at the rows.
     pub fn is_exact(&self, course: &Course, axis: usize) -> bool {
         let legs = &course.legs;
         let last = legs.len() - 1;
@@ -219,13 +218,13 @@ impl Spline {
         meets && agrees && ends && none != self.denominator && !self.denominator.negative
     }
 
-    /// How far a place is off, and whether "twice the size of D×X - E is at most 3×D".
+    /// How far a place is off, and whether it is near (C3).
     pub fn distance(&self, leg: usize, u: i128, place: i64) -> (f64, bool) {
         let off = &self.denominator.times(place.into()) - &self.value(leg, u);
         (off.over(&self.denominator), off.within(2, 3, &self.denominator))
     }
 
-    /// How far a bend number is from 65,536 times the exact bend, and whether that is at most 9/8.
+    /// How far a bend number is off, and whether that is within L6.
     pub fn bend_distance(&self, i: usize, z: i64) -> (f64, bool) {
         let off = &self.bends_over.times(z.into()) - &self.bends[i].times(65_536);
         (off.over(&self.bends_over), off.within(8, 9, &self.bends_over))

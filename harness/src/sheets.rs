@@ -156,41 +156,8 @@ pub fn at_edges(random: &mut Random) -> Vec<u8> {
     let mut stated = None;
     for _ in 0..random.pick(&[1, 1, 1, 2, 3]) {
         match random.below(16) {
-            0..=3 if !draft.legs.is_empty() => {
-                let i = place_in(random, draft.legs.len());
-                draft.legs[i] = random.pick(&[0, 1, 2, 255, 256, 257, 511, 512, 32_768, 65_535]);
-            }
-            4..=8 if !draft.points.is_empty() => {
-                let i = place_in(random, draft.points.len());
-                let limit = random.pick(&[1_000_000, 1_000_000, i32::MAX]);
-                draft.points[i][random.below(3)] = around_limit(random, limit);
-            }
-            9..=11 => {
-                if draft.slopes.is_empty() {
-                    draft.kind = HELD;
-                    draft.fit(random);
-                }
-                let limit = random.pick(&[5_000, 5_000, i32::MAX]);
-                draft.slopes[random.below(6)] = around_limit(random, limit);
-            }
-            12 => {
-                draft.kind = random.pick(&[0, 1, 2, 3, 4, 128, 255]);
-                if random.once_in(2) {
-                    draft.fit(random);
-                }
-            }
-            13 => {
-                // 65,535 waypoints that fit the formula are nearly a megabyte: seldom
-                let large = random.once_in(200);
-                draft.n = random.pick(&[0, 1, 2, 3, 4, 511, 512, 513, 514, if large { 65_535 } else { 600 }]);
-                if random.below(4) > 0 {
-                    draft.fit(random);
-                } else {
-                    draft.n = random.pick(&[draft.n, 65_535, 256]);
-                }
-            }
-            14 => draft.version = random.pick(&[0, 1, 2, 255]),
-            _ => stated = Some(random.pick(&[-8, -1, 1, 8, 256, 1 << 16, -(1 << 16)])),
+            15 => stated = Some(random.pick(&[-8, -1, 1, 8, 256, 1 << 16, -(1 << 16)])),
+            field => move_field(random, &mut draft, field),
         }
     }
     let mut bytes = draft.bytes();
@@ -199,6 +166,49 @@ pub fn at_edges(random: &mut Random) -> Vec<u8> {
         bytes[0..4].copy_from_slice(&length);
     }
     bytes
+}
+
+/// Moves a leg (0 to 3), a waypoint (4 to 8), a slope (9 to 11), the kind (12), N (13) or the version (14) to an edge.
+fn move_field(random: &mut Random, draft: &mut Draft, field: usize) {
+    match field {
+        0..=3 if !draft.legs.is_empty() => {
+            let i = place_in(random, draft.legs.len());
+            draft.legs[i] = random.pick(&[0, 1, 2, 255, 256, 257, 511, 512, 32_768, 65_535]);
+        }
+        4..=8 if !draft.points.is_empty() => {
+            let i = place_in(random, draft.points.len());
+            let limit = random.pick(&[1_000_000, 1_000_000, i32::MAX]);
+            draft.points[i][random.below(3)] = around_limit(random, limit);
+        }
+        9..=11 => {
+            if draft.slopes.is_empty() {
+                draft.kind = HELD;
+                draft.fit(random);
+            }
+            let limit = random.pick(&[5_000, 5_000, i32::MAX]);
+            draft.slopes[random.below(6)] = around_limit(random, limit);
+        }
+        12 => {
+            draft.kind = random.pick(&[0, 1, 2, 3, 4, 128, 255]);
+            if random.once_in(2) {
+                draft.fit(random);
+            }
+        }
+        13 => move_count(random, draft),
+        _ => draft.version = random.pick(&[0, 1, 2, 255]),
+    }
+}
+
+/// N at an edge, mostly with lists that fit it.
+fn move_count(random: &mut Random, draft: &mut Draft) {
+    // 65,535 waypoints that fit the formula are nearly a megabyte: seldom
+    let large = random.once_in(200);
+    draft.n = random.pick(&[0, 1, 2, 3, 4, 511, 512, 513, 514, if large { 65_535 } else { 600 }]);
+    if random.below(4) > 0 {
+        draft.fit(random);
+    } else {
+        draft.n = random.pick(&[draft.n, 65_535, 256]);
+    }
 }
 
 /// A place in a list: the first, the last, or any.
@@ -237,38 +247,40 @@ pub fn damaged(random: &mut Random) -> Vec<u8> {
         5 => bytes.truncate(random.below(bytes.len())),
         // made longer
         6 => bytes.extend((0..random.between(1, 30)).map(|_| random.word() as u8)),
-        // bytes lost or doubled inside
-        7 => {
-            let i = random.below(bytes.len());
-            let count = random.below(bytes.len() - i).min(16);
-            if random.once_in(2) {
-                bytes.drain(i..i + count);
-            } else {
-                let doubled = bytes[i..i + count].to_vec();
-                bytes.splice(i..i, doubled);
-            }
-        }
-        // all in the other order of bytes, or the length alone
+        7 => lose_or_double(random, &mut bytes),
+        // the length or N in the other order of bytes
         8 => {
-            if random.once_in(2) {
-                bytes[0..4].reverse();
-            } else {
-                bytes[6..8].reverse();
-            }
+            let (from, to) = random.pick(&[(0, 4), (6, 8)]);
+            bytes[from..to].reverse();
         }
-        // noise
-        _ => {
-            let length = random.pick(&[0, 1, 4, 7, 8, 9, 20, 34, 36, 60, 200]);
-            bytes = (0..length).map(|_| random.word() as u8).collect();
-            if length > 5 && random.once_in(2) {
-                bytes[4] = 1;
-                bytes[5] %= 3;
-            }
-        }
+        _ => bytes = noise(random),
     }
     // half of the time the length is put right, so that the tests behind the first are reached
     if random.once_in(2) {
         mend(&mut bytes);
+    }
+    bytes
+}
+
+/// Bytes lost or doubled inside.
+fn lose_or_double(random: &mut Random, bytes: &mut Vec<u8>) {
+    let i = random.below(bytes.len());
+    let count = random.below(bytes.len() - i).min(16);
+    if random.once_in(2) {
+        bytes.drain(i..i + count);
+    } else {
+        let doubled = bytes[i..i + count].to_vec();
+        bytes.splice(i..i, doubled);
+    }
+}
+
+/// Random bytes, half of the time with a version and a kind that are right.
+fn noise(random: &mut Random) -> Vec<u8> {
+    let length = random.pick(&[0, 1, 4, 7, 8, 9, 20, 34, 36, 60, 200]);
+    let mut bytes: Vec<u8> = (0..length).map(|_| random.word() as u8).collect();
+    if length > 5 && random.once_in(2) {
+        bytes[4] = 1;
+        bytes[5] %= 3;
     }
     bytes
 }

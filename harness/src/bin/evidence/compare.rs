@@ -1,21 +1,27 @@
 //! One call by the model, by the library and by the C files, in memory with fences: equal answers, equal outputs, nothing else touched.
 
-use harness::boundary::{Call, Calls, BASE, CAREFUL, LIBRARY, NAMES};
+use crate::hit::{self, Doing};
+use crate::parts::{Part, Tally};
+use crate::wrapper::{self, Refusal};
+use harness::boundary::{Call, Calls, BASE, CAREFUL, LIBRARY, STRUCTS};
 use harness::fence::{Fenced, Stand};
+use harness::model::{self, Course, WORDS};
 use harness::room::ROOM;
-use harness::station::{self, Refusal, Runner};
 
 pub struct Comparison {
-    pub sheets: u64,
-    /// Calls of each implementation that were compared with the model.
+    pub tally: Tally,
+    /// The part whose comparisons are made now, and the case of it, which a fence hit names.
+    pub part: Part,
+    pub case: u64,
+    seed: u64,
+    /// Calls that were compared with the model.
     pub calls: u64,
     /// Those of them that would have been done but lacked room for the results.
     pub without_room: u64,
-    pub differences: u64,
     /// How often each call gave each answer, by [`Call::index`].
     pub answers: [[u64; 16]; 6],
     pub stand: Stand,
-    /// The library, and with it the C files or not.
+    /// The library, and with it its functions over structs and the C files or not.
     pub implementations: &'static [Calls],
     sheet: Fenced<u8>,
     list: Fenced<i64>,
@@ -23,7 +29,7 @@ pub struct Comparison {
     place: Fenced<i64>,
 }
 
-pub const ALL: [Calls; 3] = [LIBRARY, BASE, CAREFUL];
+pub const ALL: [Calls; 4] = [LIBRARY, STRUCTS, BASE, CAREFUL];
 
 /// Everything that a call is lent, as it was before it or as it is after it.
 #[derive(Clone, PartialEq, Eq, Debug)]
@@ -34,12 +40,14 @@ pub struct Lent {
 }
 
 impl Comparison {
-    pub fn new(stand: Stand) -> Comparison {
+    pub fn new(seed: u64, stand: Stand) -> Comparison {
         Comparison {
-            sheets: 0,
+            tally: Tally::default(),
+            part: Part::Worked,
+            case: 0,
+            seed,
             calls: 0,
             without_room: 0,
-            differences: 0,
             answers: [[0; 16]; 6],
             stand,
             implementations: &ALL,
@@ -50,18 +58,16 @@ impl Comparison {
         }
     }
 
-    /// Says that something is not as it should be.
-    pub fn differs(&mut self, what: &str) {
-        self.differences += 1;
-        if self.differences <= 10 {
-            println!("DIFFERENCE: {what}");
-        }
+    /// One comparison of the part that is on.
+    pub fn require(&mut self, holds: bool, what: impl FnOnce() -> String) {
+        self.tally.check(self.part, holds, what);
     }
 
-    pub fn require(&mut self, holds: bool, what: impl FnOnce() -> String) {
-        if !holds {
-            self.differs(&what());
-        }
+    /// The course of a sheet that has to be accepted.
+    pub fn course(&mut self, sheet: &[u8]) -> Option<Course> {
+        let course = model::read(sheet);
+        self.require(course.is_ok(), || format!("the model does not accept the sheet {}", hex(sheet)));
+        course.ok()
     }
 
     /// One call by one implementation, in memory with fences.
@@ -70,10 +76,11 @@ impl Comparison {
         let list = self.list.lend(&before.list, self.stand);
         let words = self.words.lend(&before.words, self.stand);
         let place = self.place.lend(&before.place, self.stand);
-        let answer = call.by(calls, lent_sheet, list, words, place);
+        let doing = Doing { part: self.part.name(), seed: self.seed, case: self.case, implementation: calls.name, call, sheet };
+        let answer = hit::watched(&doing, || call.by(calls, lent_sheet, list, words, place));
         let after = Lent { list: list.to_vec(), words: words.to_vec(), place: place.to_vec() };
         let kept = lent_sheet == sheet;
-        self.require(kept, || format!("{} {call:?} wrote the sheet {}", calls.name, hex(sheet)));
+        self.tally.check(Part::Memory, kept, || format!("{} {call:?} wrote the sheet {}", calls.name, hex(sheet)));
         (answer, after)
     }
 
@@ -84,55 +91,51 @@ impl Comparison {
         self.answers[call.index()][answer as usize] += 1;
         self.calls += 1;
         self.without_room += u64::from([0, ROOM].contains(&answer) && call.lacks_room(&before.words, &before.place));
-        for calls in self.implementations {
+        for (i, calls) in self.implementations.iter().enumerate() {
             let got = self.call(calls, call, sheet, before);
-            self.require(got.0 == answer && got.1 == after, || {
-                format!(
-                    "{} {call:?}\n  sheet {}\n  lent {before:?}\n  model {answer} {after:?}\n  {} {} {:?}",
-                    calls.name,
-                    hex(sheet),
-                    calls.name,
-                    got.0,
-                    got.1
-                )
+            let part = [self.part, Part::Structs, Part::CFiles, Part::CFiles][i];
+            let name = calls.name;
+            self.tally.check(part, got.0 == answer && got.1 == after, || {
+                let (sheet, number, left) = (hex(sheet), got.0, got.1);
+                format!("{name} {call:?}\n  sheet {sheet}\n  lent {before:?}\n  model {answer} {after:?}\n  {name} {number} {left:?}")
             });
         }
         (answer, after)
     }
 
-    /// Compares the safe Rust wrapper's answer to the same call; it always has room.
+    /// Compares the Rust wrapper's answer to the same call; it always has room.
     pub fn compare_wrapper(&mut self, call: &Call, sheet: &[u8], before: &Lent) {
         let mut model = Lent { list: before.list.clone(), words: before.words.clone(), place: vec![0; 3] };
         model.words.resize(3, 0);
-        let refusal = |answer: Refusal| (answer.number(), answer.word().to_string());
-        let runner = Runner { leg: model.words[0], offset: model.words[1] };
         let mut got = model.clone();
-        let words = &mut got.words;
-        let answer = match *call {
-            Call::Read => {
-                station::read(sheet).map(|course| words.copy_from_slice(&[course.kind as u64, course.waypoints as u64, course.ticks]))
-            }
-            Call::LayOut => station::lay_out(sheet, &mut got.list),
-            Call::PlaceAtTick { tick } => station::place_at_tick(sheet, &got.list, tick).map(|place| got.place = place.to_vec()),
-            Call::PlaceOfRunner { leg, offset } => {
-                station::place_of_runner(sheet, &got.list, Runner { leg, offset }).map(|place| got.place = place.to_vec())
-            }
-            Call::RunnerAtTick { tick } => {
-                station::runner_at_tick(sheet, tick).map(|runner| words[..2].copy_from_slice(&[runner.leg, runner.offset]))
-            }
-            Call::Step => {
-                let mut moved = runner;
-                let answer = station::step(sheet, &mut moved);
-                words[..2].copy_from_slice(&[moved.leg, moved.offset]);
-                answer
-            }
+        let answer = match by_wrapper(call, sheet, &mut got) {
+            Ok(()) => (0, ""),
+            Err(refusal) => (refusal.number(), refusal.word()),
         };
-        let answer = answer.map_err(refusal).err().unwrap_or_default();
         let number = call.by_model(sheet, &mut model.list, &mut model.words, &mut model.place);
-        let word = harness::model::WORDS[number as usize].to_string();
-        self.require(answer == (number, word) && got == model, || {
-            format!("wrapper {} {call:?} {answer:?} {got:?}\n  sheet {}\n  model {number} {model:?}", NAMES[call.index()], hex(sheet))
+        let wanted = (number, WORDS[number as usize]);
+        self.tally.check(Part::Wrapper, answer == wanted && got == model, || {
+            format!("{call:?} {answer:?} {got:?}\n  sheet {}\n  model {wanted:?} {model:?}", hex(sheet))
         });
+    }
+}
+
+/// One call by the wrapper; its results go where the C boundary would write them.
+fn by_wrapper(call: &Call, sheet: &[u8], lent: &mut Lent) -> Result<(), Refusal> {
+    match *call {
+        Call::Read => wrapper::read(sheet).map(|course| lent.words.copy_from_slice(&course)),
+        Call::LayOut => wrapper::lay_out(sheet, &mut lent.list),
+        Call::PlaceAtTick { tick } => wrapper::place_at_tick(sheet, &lent.list, tick).map(|place| lent.place = place.to_vec()),
+        Call::PlaceOfRunner { leg, offset } => {
+            wrapper::place_of_runner(sheet, &lent.list, [leg, offset]).map(|place| lent.place = place.to_vec())
+        }
+        Call::RunnerAtTick { tick } => wrapper::runner_at_tick(sheet, tick).map(|runner| lent.words[..2].copy_from_slice(&runner)),
+        Call::Step => {
+            let mut runner = [lent.words[0], lent.words[1]];
+            let answer = wrapper::step(sheet, &mut runner);
+            lent.words[..2].copy_from_slice(&runner);
+            answer
+        }
     }
 }
 

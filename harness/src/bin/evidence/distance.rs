@@ -1,80 +1,134 @@
 //! How far bend numbers and places are from the exact spline: by an elimination in floats on courses of all sizes, and in exact
-//! arithmetic, from the spline's own properties, on small ones.
+//! arithmetic, from the spline's own properties, on small ones. A distance that is no number is within no limit.
 
 use crate::compare::{Comparison, Lent};
-use crate::worked::starred;
-use crate::Options;
+use crate::parts::Part;
+use crate::worked::courses;
+use crate::{wrapper, Options};
 use harness::boundary::{Call, LIBRARY};
 use harness::elimination;
 use harness::exact::Spline;
-use harness::model::{self, Course};
+use harness::model::Course;
 use harness::pcuspl::Pcuspl;
 use harness::random::Random;
 use harness::sheets::{self, Draft, CLOSED, FREE, HELD};
-use harness::station;
+
+/// L6, and C3 in millimetres.
+const BEND_LIMIT: f64 = 1.125;
+const PLACE_LIMIT: f64 = 1.5;
+
+/// The largest distance seen; once it is no number it stays so.
+#[derive(Clone, Copy, Default)]
+pub struct Largest(f64);
+
+impl Largest {
+    fn see(&mut self, off: f64) {
+        if off.is_nan() || off > self.0 {
+            self.0 = off;
+        }
+    }
+
+    /// The larger one of two.
+    pub fn or(mut self, other: Largest) -> f64 {
+        self.see(other.0);
+        self.0
+    }
+}
 
 /// The largest distances seen: of a bend number (in its own unit), of a place (in millimetres).
-pub type Largest = (f64, f64);
+#[derive(Default)]
+pub struct Distances {
+    pub bend: Largest,
+    pub place: Largest,
+}
+
+/// One distance, which has to be at most its limit.
+fn near(comparison: &mut Comparison, largest: &mut Largest, off: f64, limit: f64, what: impl FnOnce() -> String) {
+    largest.see(off);
+    comparison.require(off <= limit, || format!("{} off by {off}, at most {limit} is allowed", what()));
+}
 
 /// The course of a sheet and the bend numbers that the library lays out for it.
-fn laid_out(comparison: &mut Comparison, sheet: &[u8]) -> (Course, Vec<i64>) {
-    let course = model::read(sheet).expect("an accepted sheet");
+fn laid_out(comparison: &mut Comparison, sheet: &[u8]) -> Option<(Course, Vec<i64>)> {
+    let course = comparison.course(sheet)?;
     let before = Lent { list: vec![0; 3 * course.n], words: vec![], place: vec![] };
     let (answer, after) = comparison.call(&LIBRARY, &Call::LayOut, sheet, &before);
     comparison.require(answer == 0, || format!("an accepted sheet is not laid out: {answer}"));
-    (course, after.list)
+    Some((course, after.list))
 }
 
-/// Bend numbers and places of the library against an elimination in floats.
-pub fn by_elimination(options: &Options, comparison: &mut Comparison) -> Largest {
-    let count = options.cases / 25;
-    let mut largest = (0.0_f64, 0.0_f64);
-    let mut starred = starred().into_iter();
-    let (mut pcuspl, mut pcuspl_off) = (Pcuspl::empty(), 0.0_f64);
+/// Bend numbers and places of the library against an elimination in floats, and on closed courses against 004's programs.
+pub fn by_elimination(options: &Options, comparison: &mut Comparison) -> Distances {
+    let worked = courses();
+    let count = (options.cases / 25).max(worked.len() as u64);
+    let (mut largest, mut pcuspl_off) = (Distances::default(), Largest::default());
+    let mut pcuspl = Pcuspl::empty();
     for case in 0..count {
+        comparison.case = case;
         let mut random = Random::of_case(options.seed ^ 1, case);
-        let draft = match starred.next() {
-            Some((draft, ..)) => draft,
-            None => generated(&mut random),
-        };
+        let draft = worked.get(case as usize).map_or_else(|| generated(&mut random), |worked| worked.0.clone());
         let sheet = draft.bytes();
-        let (course, list) = laid_out(comparison, &sheet);
+        comparison.part = Part::Bends;
+        let Some((course, list)) = laid_out(comparison, &sheet) else { continue };
         if course.closed() {
+            comparison.part = Part::Pcuspl;
             pcuspl.lay_out(&sheet);
             for _ in 0..20 {
                 let tick = random.below(course.ticks() as usize) as u64;
-                let place = station::place_at_tick(&sheet, &list, tick);
-                comparison.require(place.is_ok(), || format!("no place at tick {tick}: {place:?}"));
-                for (place, exact) in place.unwrap_or([i64::MAX; 3]).iter().zip(pcuspl.place(tick)) {
-                    pcuspl_off = pcuspl_off.max((*place as f64 - exact).abs());
-                }
+                by_pcuspl(comparison, &mut pcuspl_off, &pcuspl, &sheet, &list, tick);
             }
         }
         for axis in 0..3 {
-            let bends = elimination::bends(&course, axis);
-            for (i, bend) in bends.iter().enumerate() {
-                largest.0 = largest.0.max((list[axis * course.n + i] as f64 - 65_536.0 * bend).abs());
-            }
-            for _ in 0..20 {
-                let leg = random.below(course.legs.len());
-                let h = course.legs[leg];
-                let offset = if random.once_in(2) { h / 2 } else { random.below(h as usize) as i128 };
-                let runner = station::Runner { leg: leg as u64, offset: offset as u64 };
-                let place = station::place_of_runner(&sheet, &list, runner);
-                comparison.require(place.is_ok(), || format!("no place: {place:?}"));
-                let exact = elimination::place(&course, axis, &bends, leg, offset);
-                largest.1 = largest.1.max((place.map_or(f64::INFINITY, |place| place[axis] as f64) - exact).abs());
-            }
+            on_axis(comparison, &mut largest, &mut random, &sheet, &course, &list, axis);
         }
     }
+    let [bends, places, by_pcuspl] = [Part::Bends, Part::Places, Part::Pcuspl].map(|part| comparison.tally.compared(part));
     println!(
-        "elimination in floats: {count} sheets, bend numbers off by at most {:.5} (limit 9/8 = 1.125), places by at most {:.5} mm (limit 1.5); \
-         004's PCUSPL and SEVAL on the closed ones: places off by at most {pcuspl_off:.5} mm",
-        largest.0, largest.1
+        "elimination in floats: {count} sheets, {bends} comparisons of bend numbers, off by at most {:.5} (limit 9/8 = 1.125), \
+         {places} of places, by at most {:.5} mm (limit 1.5); 004's PCUSPL and SEVAL on the closed ones: {by_pcuspl} of places, by at most {:.5} mm",
+        largest.bend.0, largest.place.0, pcuspl_off.0
     );
-    comparison
-        .require(largest.0 <= 1.125 && largest.1 <= 1.5 && pcuspl_off <= 1.5, || format!("beyond 01's limits: {largest:?} {pcuspl_off}"));
     largest
+}
+
+/// The place at one tick of a closed course against 004's programs.
+fn by_pcuspl(comparison: &mut Comparison, largest: &mut Largest, pcuspl: &Pcuspl, sheet: &[u8], list: &[i64], tick: u64) {
+    let place = wrapper::place_at_tick(sheet, list, tick).map(|place| place.map(|number| number as f64));
+    let exact = pcuspl.place(tick);
+    for axis in 0..3 {
+        let off = place.map_or(f64::NAN, |place| (place[axis] - exact[axis]).abs());
+        near(comparison, largest, off, PLACE_LIMIT, || format!("tick {tick}, axis {axis}, 004 {exact:?}, library {place:?}:"));
+    }
+}
+
+/// All bend numbers of one axis and some places.
+fn on_axis(
+    comparison: &mut Comparison,
+    largest: &mut Distances,
+    random: &mut Random,
+    sheet: &[u8],
+    course: &Course,
+    list: &[i64],
+    axis: usize,
+) {
+    let bends = elimination::bends(course, axis);
+    comparison.part = Part::Bends;
+    for (i, bend) in bends.iter().enumerate() {
+        let off = (list[axis * course.n + i] as f64 - 65_536.0 * bend).abs();
+        near(comparison, &mut largest.bend, off, BEND_LIMIT, || format!("bend number {i}, axis {axis} of {course:?}:"));
+    }
+    comparison.part = Part::Places;
+    for _ in 0..20 {
+        let leg = random.below(course.legs.len());
+        let h = course.legs[leg];
+        let offset = if random.once_in(2) { h / 2 } else { random.below(h as usize) as i128 };
+        let place = wrapper::place_of_runner(sheet, list, [leg as u64, offset as u64]);
+        let exact = elimination::place(course, axis, &bends, leg, offset);
+        let off = place.map_or(f64::NAN, |place| (place[axis] as f64 - exact).abs());
+        near(comparison, &mut largest.place, off, PLACE_LIMIT, || {
+            format!("leg {leg}, offset {offset}, axis {axis}, {place:?}, {course:?}:")
+        });
+    }
 }
 
 fn generated(random: &mut Random) -> Draft {
@@ -99,45 +153,62 @@ fn tense(random: &mut Random) -> Draft {
     Draft::of(HELD, &legs, &values, Some([random.pick(&[-5_000, 5_000]), random.pick(&[-5_000, 4_999])]))
 }
 
-/// Demand 3 in exact arithmetic on small courses: the spline has 01's properties, every tick has its place, and bend numbers and
-/// places are within the limits.
-pub fn by_exact_spline(options: &Options, comparison: &mut Comparison) -> Largest {
-    let count = options.cases / 500;
-    let mut largest = (0.0_f64, 0.0_f64);
-    let mut places = 0;
+/// D3 in exact arithmetic on small courses of the three kinds in turn: the spline has its properties, every tick has its place, bend
+/// numbers and places are within the limits.
+pub fn by_exact_spline(options: &Options, comparison: &mut Comparison) -> Distances {
+    let count = (options.cases / 500).max(3);
+    let mut largest = Distances::default();
     for case in 0..count {
+        comparison.case = case;
         let mut random = Random::of_case(options.seed ^ 2, case);
-        let kind = random.pick(&[FREE, HELD, CLOSED]);
+        let kind = [FREE, HELD, CLOSED][case as usize % 3];
         let n = random.between(if kind == CLOSED { 3 } else { 2 }, 6) as usize;
         let sheet = sheets::of_size(&mut random, kind, n).bytes();
-        let (course, list) = laid_out(comparison, &sheet);
-        let ticks = course.ticks() as u64;
-        let stride = ticks / 150 + 1;
+        comparison.part = Part::ExactBends;
+        let Some((course, list)) = laid_out(comparison, &sheet) else { continue };
         for axis in 0..3 {
             let spline = Spline::of(&course, axis);
+            comparison.part = Part::Spline;
             comparison.require(spline.is_exact(&course, axis), || format!("not the exact spline: {course:?}"));
+            comparison.part = Part::ExactBends;
             for i in 0..n {
                 let (off, within) = spline.bend_distance(i, list[axis * n + i]);
-                largest.0 = largest.0.max(off);
-                comparison.require(within, || format!("bend number {i} off by {off}: {course:?}"));
+                exactly(comparison, &mut largest.bend, off, within, BEND_LIMIT, || format!("bend number {i} of {course:?}"));
             }
-            for tick in (0..=ticks).step_by(stride as usize) {
-                let place = station::place_at_tick(&sheet, &list, tick);
-                let runner = station::runner_at_tick(&sheet, tick);
-                let (Ok(place), Ok(runner)) = (place, runner) else {
-                    comparison.differs(&format!("tick {tick} has no place: {place:?} {runner:?} {course:?}"));
-                    continue;
-                };
-                let (off, within) = spline.distance(runner.leg as usize, runner.offset.into(), place[axis]);
-                largest.1 = largest.1.max(off);
-                comparison.require(within, || format!("tick {tick} off by {off} mm: {course:?}"));
-                places += 1;
-            }
+            comparison.part = Part::ExactPlaces;
+            places_of(comparison, &mut largest.place, &spline, &sheet, &course, &list, axis);
         }
     }
+    let [splines, bends, places] = [Part::Spline, Part::ExactBends, Part::ExactPlaces].map(|part| comparison.tally.compared(part));
     println!(
-        "exact spline: {count} small sheets, {places} places, bend numbers off by at most {:.5}, places by at most {:.5} mm",
-        largest.0, largest.1
+        "exact spline: {count} small sheets, {splines} splines tested for their properties, {bends} comparisons of bend numbers, off by at \
+         most {:.5}, {places} of places, by at most {:.5} mm",
+        largest.bend.0, largest.place.0
     );
     largest
+}
+
+/// One distance that was tested exactly; its float is printed, so it has to be a number near the limit as well.
+fn exactly(comparison: &mut Comparison, largest: &mut Largest, off: f64, within: bool, limit: f64, what: impl FnOnce() -> String) {
+    largest.see(off);
+    comparison.require(within && off <= limit + 1e-9, || format!("{} off by {off}, at most {limit} is allowed", what()));
+}
+
+/// Some 150 ticks of one axis against the exact spline.
+fn places_of(
+    comparison: &mut Comparison,
+    largest: &mut Largest,
+    spline: &Spline,
+    sheet: &[u8],
+    course: &Course,
+    list: &[i64],
+    axis: usize,
+) {
+    let ticks = course.ticks() as u64;
+    for tick in (0..=ticks).step_by(ticks as usize / 150 + 1) {
+        let place = wrapper::place_at_tick(sheet, list, tick);
+        let (leg, offset) = course.runner(tick).expect("a tick of the course");
+        let (off, within) = place.map_or((f64::NAN, false), |place| spline.distance(leg, offset, place[axis]));
+        exactly(comparison, largest, off, within, PLACE_LIMIT, || format!("tick {tick}: {place:?} of {course:?}"));
+    }
 }

@@ -1,18 +1,26 @@
-//! Evidence from outside the proofs: the station's library, and with it the C files of the benchmark, against an independent model of 01.
+//! Evidence from outside the proofs: the station's library, and with it the C files of the benchmark and the Rust wrapper, against an
+//! independent model of docs/REQUIREMENTS.md. harness/usage/evidence lists the options.
 //!
-//! evidence [--seed S] [--cases N] [--first N] [--steps N] [--heap]     (or STATION_SEED, STATION_CASES .. in the environment)
-//!
-//! Prints its seed and what was compared; ends with status 1 where anything differs, a limit of 01 is passed, or a refusal was never reached.
+//! Prints its seed and what each part compared. Ends with status 1 where anything differs, a distance is not within its limit, a
+//! refusal was never reached, or a part compared nothing.
 
 mod compare;
 mod distance;
+mod header;
+mod hit;
+mod parts;
 mod sheets;
 mod worked;
+mod wrapper;
 mod years;
 
 use compare::Comparison;
 use harness::fence::Stand;
+use harness::options::{refuse, Given};
+use parts::Part;
 use std::time::{Instant, SystemTime, UNIX_EPOCH};
+
+const USAGE: &str = include_str!("../../../usage/evidence");
 
 /// With so many steps the runner on foot goes through all ten years.
 pub const DEFAULT_STEPS: u64 = 20_000_000;
@@ -21,7 +29,7 @@ pub struct Options {
     pub seed: u64,
     /// How many sheets are compared on every call.
     pub cases: u64,
-    /// The first of them: `--first K --cases 1` tries case K of a seed again.
+    /// The first of them.
     pub first: u64,
     /// How many steps, nearly, are compared with the runner at the tick; those of the runner on foot are as many times more.
     pub steps: u64,
@@ -29,45 +37,50 @@ pub struct Options {
     pub heap: bool,
 }
 
-/// An option's number from the arguments, else from the environment.
-fn number(name: &str, default: u64) -> u64 {
-    let arguments: Vec<String> = std::env::args().collect();
-    let given = arguments.iter().position(|word| *word == format!("--{name}")).map(|at| arguments[at + 1].clone());
-    let given = given.or_else(|| std::env::var(format!("STATION_{}", name.to_uppercase())).ok());
-    given.map_or(default, |word| word.parse().unwrap_or_else(|_| panic!("--{name} takes a number, not {word}")))
+fn options() -> Options {
+    let given = Given::new(USAGE);
+    if given.flag("--mutants") {
+        refuse(USAGE, "--mutants is for ./evidence, and stands alone");
+    }
+    let clock = SystemTime::now().duration_since(UNIX_EPOCH).map_or(0, |time| time.as_nanos() as u64);
+    Options {
+        seed: given.number_or("--seed", clock),
+        cases: given.number_or("--cases", 1_000_000),
+        first: given.number_or("--first", 0),
+        steps: given.number_or("--steps", DEFAULT_STEPS),
+        heap: given.flag("--heap"),
+    }
 }
 
 fn main() {
-    let clock = SystemTime::now().duration_since(UNIX_EPOCH).map_or(0, |time| time.as_nanos() as u64);
-    let options = Options {
-        seed: number("seed", clock),
-        cases: number("cases", 1_000_000),
-        first: number("first", 0),
-        steps: number("steps", DEFAULT_STEPS),
-        heap: std::env::args().any(|word| word == "--heap"),
-    };
+    let options = options();
     let start = Instant::now();
     println!("evidence: seed {}, library {}", options.seed, harness::LIBRARY);
+    hit::watch();
 
-    let mut comparison = Comparison::new(if options.heap { Stand::Heap } else { Stand::BeforeFence });
+    let mut comparison = Comparison::new(options.seed, if options.heap { Stand::Heap } else { Stand::BeforeFence });
     worked::run(&mut comparison);
+    header::run(&mut comparison);
     sheets::run(&options, &mut comparison);
     let elimination = distance::by_elimination(&options, &mut comparison);
     let exact = distance::by_exact_spline(&options, &mut comparison);
-    let stepped = years::run(&options, &mut comparison);
+    years::run(&options, &mut comparison);
 
+    let passed = comparison.tally.closed();
+    let steps = [Part::Steps, Part::OpenEnds, Part::OnFoot].map(|part| comparison.tally.compared(part)).iter().sum::<u64>();
     println!(
-        "evidence: {} sheets, {} calls, {stepped} steps, bend numbers off by {:.5} of at most 1.125, places by {:.5} mm \
-         of at most 1.5: {} differences, seed {}, {:.0} s",
-        comparison.sheets,
+        "evidence: {} sheets, {} calls, {steps} steps, bend numbers off by {:.5} of at most 1.125, places by {:.5} mm of at most 1.5: \
+         {} differences, seed {}, {:.0} s",
+        options.cases,
         comparison.calls,
-        elimination.0.max(exact.0),
-        elimination.1.max(exact.1),
-        comparison.differences,
+        elimination.bend.or(exact.bend),
+        elimination.place.or(exact.place),
+        comparison.tally.differences(),
         options.seed,
         start.elapsed().as_secs_f64()
     );
-    if comparison.differences > 0 {
+    if !passed {
+        println!("evidence: FAILED");
         std::process::exit(1);
     }
 }

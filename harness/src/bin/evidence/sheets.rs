@@ -1,46 +1,52 @@
 //! Every call on random, boundary and damaged sheets.
 
 use crate::compare::{Comparison, Lent, ALL};
+use crate::parts::Part;
 use crate::Options;
 use harness::boundary::{Call, NAMES, TESTS};
 use harness::fence::Stand;
-use harness::model::{self, Course, WORDS};
+use harness::model::{self, Course, Kind, WORDS};
 use harness::random::Random;
 use harness::sheets;
 
 pub fn run(options: &Options, comparison: &mut Comparison) {
-    let (mut accepted, mut of_kind) = (0, [0_u64; 3]);
-    for case in options.first..options.first + options.cases {
+    comparison.part = Part::Calls;
+    let (stand, mut of_kind) = (comparison.stand, [0_u64; 3]);
+    for case in options.first..options.first.saturating_add(options.cases) {
+        comparison.case = case;
         let mut random = Random::of_case(options.seed, case);
         if !options.heap {
             comparison.stand = if random.once_in(4) { Stand::AfterFence } else { Stand::BeforeFence };
         }
-        // the C files of the benchmark on every fourth sheet
+        // the structs and the C files of the benchmark on every fourth sheet
         comparison.implementations = if case % 4 == 0 { &ALL } else { &ALL[..1] };
         let sheet = match random.below(10) {
             0..=3 => sheets::accepted(&mut random).bytes(),
             4..=6 => sheets::at_edges(&mut random),
             _ => sheets::damaged(&mut random),
         };
-        let before = comparison.differences;
+        let before = comparison.tally.differences();
         match model::read(&sheet) {
             Ok(course) => {
-                accepted += 1;
                 of_kind[course.kind as usize] += 1;
                 on_accepted(&mut random, comparison, &sheet, &course);
             }
             Err(_) => on_refused(&mut random, comparison, &sheet),
         }
-        comparison.sheets += 1;
-        if comparison.differences > before {
+        if comparison.tally.differences() > before && before < 10 {
             println!("  (case {case} of seed {})", options.seed);
         }
     }
-    println!(
-        "sheets: {} compared on every call, {accepted} of them accepted (free {}, held {}, closed {})",
-        options.cases, of_kind[0], of_kind[1], of_kind[2]
-    );
-    coverage(comparison, options.cases >= 10_000);
+    (comparison.stand, comparison.implementations) = (stand, &ALL);
+    let [free, held, closed] = of_kind;
+    let accepted = free + held + closed;
+    println!("sheets: {} compared on every call, {accepted} of them accepted (free {free}, held {held}, closed {closed})", options.cases);
+    let all = options.cases >= 10_000;
+    comparison.part = Part::Answers;
+    for (kind, count) in Kind::ALL.iter().zip(of_kind) {
+        comparison.require(!all || count > 0, || format!("no accepted sheet was {kind:?}"));
+    }
+    coverage(comparison, all);
 }
 
 /// What is lent, filled with numbers that a call must replace or leave.
@@ -82,6 +88,7 @@ fn on_refused(random: &mut Random, comparison: &mut Comparison, sheet: &[u8]) {
     }
 }
 
+/// Every call with what fits the course, or nearly.
 fn on_accepted(random: &mut Random, comparison: &mut Comparison, sheet: &[u8], course: &Course) {
     let words = room(random, 3);
     let before = lent(random, 0, words, 0);
@@ -99,30 +106,39 @@ fn on_accepted(random: &mut Random, comparison: &mut Comparison, sheet: &[u8], c
     }
 
     for _ in 0..3 {
-        let list = bend_list(random, &own, need);
-        let place = room(random, 3);
-        let before = Lent { list, ..lent(random, 0, 0, place) };
-        let tick = tick(random, course);
-        try_call(random, comparison, Call::PlaceAtTick { tick }, sheet, &before);
-
-        let list = bend_list(random, &own, need);
-        let place = room(random, 3);
-        let before = Lent { list, ..lent(random, 0, 0, place) };
-        let [leg, offset] = runner(random, course);
-        try_call(random, comparison, Call::PlaceOfRunner { leg, offset }, sheet, &before);
+        places(random, comparison, sheet, course, &own);
+        runners(random, comparison, sheet, course);
     }
-    for _ in 0..3 {
-        let words = room(random, 2);
-        let before = lent(random, 0, words, 0);
-        let tick = tick(random, course);
-        try_call(random, comparison, Call::RunnerAtTick { tick }, sheet, &before);
+}
 
-        let mut words = runner(random, course).to_vec();
-        words.extend([random.word(), random.word()]);
-        words.truncate(room(random, 2).min(4));
-        let before = Lent { words, ..lent(random, 0, 0, 0) };
-        try_call(random, comparison, Call::Step, sheet, &before);
-    }
+/// A place by tick and one by runner, with the sheet's own bend numbers or changed ones.
+fn places(random: &mut Random, comparison: &mut Comparison, sheet: &[u8], course: &Course, own: &[i64]) {
+    let need = 3 * course.n;
+    let list = bend_list(random, own, need);
+    let place = room(random, 3);
+    let before = Lent { list, ..lent(random, 0, 0, place) };
+    let tick = tick(random, course);
+    try_call(random, comparison, Call::PlaceAtTick { tick }, sheet, &before);
+
+    let list = bend_list(random, own, need);
+    let place = room(random, 3);
+    let before = Lent { list, ..lent(random, 0, 0, place) };
+    let [leg, offset] = runner(random, course);
+    try_call(random, comparison, Call::PlaceOfRunner { leg, offset }, sheet, &before);
+}
+
+/// A runner at a tick, and a step.
+fn runners(random: &mut Random, comparison: &mut Comparison, sheet: &[u8], course: &Course) {
+    let words = room(random, 2);
+    let before = lent(random, 0, words, 0);
+    let tick = tick(random, course);
+    try_call(random, comparison, Call::RunnerAtTick { tick }, sheet, &before);
+
+    let mut words = runner(random, course).to_vec();
+    words.extend([random.word(), random.word()]);
+    words.truncate(room(random, 2).min(4));
+    let before = Lent { words, ..lent(random, 0, 0, 0) };
+    try_call(random, comparison, Call::Step, sheet, &before);
 }
 
 /// The length of a list that is too short.
@@ -196,13 +212,16 @@ fn coverage(comparison: &mut Comparison, all: bool) {
         println!("  {number:>6} {:>14} {counts}", if number == 0 { "done" } else { word });
     }
     println!("  {} of these calls were done but lacked room for the results", comparison.without_room);
+    if !all {
+        println!("  (with fewer than 10,000 cases not every number has to be reached)");
+    }
     comparison.require(!all || comparison.without_room > 0, || "no call lacked room".to_string());
     for (index, tests) in TESTS.iter().enumerate() {
         for number in 0..16 {
             let reached = comparison.answers[index][number as usize] > 0;
             let tested = number == 0 || tests.contains(&number);
             comparison.require(if all { reached == tested } else { tested || !reached }, || {
-                format!("{} answered {number}: {reached}; 01 has it test that: {tested}", NAMES[index])
+                format!("{} answered {number}: {reached}; it has to test that: {tested}", NAMES[index])
             });
         }
     }

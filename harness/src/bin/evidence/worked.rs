@@ -1,17 +1,16 @@
-//! "Courses to try" of 01, its figures typed from the paper: the model, the library and the C files are held to them. And the numbers
-//! and words of 01's table, as the header, the Rust wrapper and the model have them.
+//! The figures of group W, typed here by hand: model, library, C files and wrapper are held to them.
 
 use crate::compare::{Comparison, Lent};
+use crate::parts::Part;
 use harness::boundary::Call;
-use harness::model::WORDS;
 use harness::random::Random;
-use harness::room::ROOM;
 use harness::sheets::{chain, Draft, CLOSED, FREE, HELD};
 
 /// A course with its north values; bend numbers of north; ticks with the place's north.
 pub type Worked = (Draft, &'static [i64], &'static [(u64, i64)]);
 
-pub fn starred() -> Vec<Worked> {
+/// W1 to W9.
+pub fn courses() -> Vec<Worked> {
     let square = Draft::of(CLOSED, &[2; 4], &[0, 6, 0, -6], None);
     vec![
         (Draft::of(FREE, &[2, 2], &[0, 8, 0], None), &[0, -65_536, 0], &[(0, 0), (1, 6), (2, 8), (3, 6), (4, 0)]),
@@ -25,7 +24,7 @@ pub fn starred() -> Vec<Worked> {
     ]
 }
 
-/// Sheets with what reading them answers.
+/// W10: sheets with what reading them answers.
 fn read_or_refused() -> Vec<(Vec<u8>, u64)> {
     let pair = |leg, north| Draft::of(FREE, &[leg], &[0, north], None).bytes();
     let alike = |kind, n: usize, l| Draft::of(kind, &vec![1; l], &vec![0; n], if kind == HELD { Some([0, 0]) } else { None }).bytes();
@@ -45,31 +44,45 @@ fn read_or_refused() -> Vec<(Vec<u8>, u64)> {
     ]
 }
 
-pub fn run(comparison: &mut Comparison) {
-    let mut figures = 0;
-    let mut expect = |comparison: &mut Comparison, got: String, wanted: String| {
-        figures += 1;
-        comparison.require(got == wanted, || format!("the paper says {wanted}, here it is {got}"));
-    };
-    let lent = |list: Vec<i64>| Lent { list, words: vec![u64::MAX; 3], place: vec![i64::MAX; 3] };
+/// Compares a call, then what the model left with the figures.
+fn expect(
+    comparison: &mut Comparison,
+    call: &Call,
+    sheet: &[u8],
+    before: &Lent,
+    wanted: String,
+    left: impl Fn(u64, &Lent) -> String,
+) -> Lent {
+    let (answer, after) = comparison.compare(call, sheet, before);
+    comparison.compare_wrapper(call, sheet, before);
+    let got = left(answer, &after);
+    comparison.require(got == wanted, || format!("{call:?} has to be {wanted}, the model has {got}"));
+    after
+}
 
-    for (draft, bends, places) in starred() {
+pub fn run(comparison: &mut Comparison) {
+    comparison.part = Part::Worked;
+    let lent = |list: Vec<i64>| Lent { list, words: vec![u64::MAX; 3], place: vec![i64::MAX; 3] };
+    let place = |answer: u64, after: &Lent| format!("{answer} {:?}", after.place);
+
+    for (draft, bends, places) in courses() {
         let sheet = draft.bytes();
-        let n = bends.len();
-        let (answer, after) = comparison.compare(&Call::LayOut, &sheet, &lent(vec![77; 3 * n + 2]));
         let whole = [bends, bends, bends, &[77, 77]].concat();
-        expect(comparison, format!("{answer} {:?}", after.list), format!("0 {whole:?}"));
+        let before = lent(vec![77; whole.len()]);
+        let laid_out = expect(comparison, &Call::LayOut, &sheet, &before, format!("0 {whole:?}"), |answer, after| {
+            format!("{answer} {:?}", after.list)
+        });
         for (tick, north) in places {
-            let (answer, after) = comparison.compare(&Call::PlaceAtTick { tick: *tick }, &sheet, &after);
-            expect(comparison, format!("{answer} {:?}", after.place), format!("0 {:?}", [north; 3]));
+            let call = Call::PlaceAtTick { tick: *tick };
+            expect(comparison, &call, &sheet, &laid_out, format!("0 {:?}", [north; 3]), place);
         }
     }
 
-    // 01's courses do not tell 40 passes from 39 or 41; this one does
+    // the courses of W do not tell 40 passes from 39 or 41; this one does
     let sheet = chain(&mut Random::new(1), 64, 60).bytes();
     comparison.compare(&Call::LayOut, &sheet, &lent(vec![77; 192]));
 
-    // course A whole, as the stand prints it, and its ticks past the last; the closed course's last tick "stands at 7"
+    // T5: course A whole, and W10's tick past its last
     let mut a = Draft::of(FREE, &[2, 2], &[0, 8, 0], None);
     a.points = vec![[0, 10, 20], [8, 10, 22], [0, 10, 24]];
     let a = a.bytes();
@@ -77,30 +90,19 @@ pub fn run(comparison: &mut Comparison) {
     let wanted = ["0 [0, 10, 20]", "0 [6, 10, 21]", "0 [8, 10, 22]", "0 [6, 10, 23]", "0 [0, 10, 24]", "10 [-1, -1, -1]"];
     for (tick, wanted) in wanted.iter().enumerate() {
         let before = Lent { place: vec![-1; 3], ..laid_out.clone() };
-        let (answer, after) = comparison.compare(&Call::PlaceAtTick { tick: tick as u64 }, &a, &before);
-        expect(comparison, format!("{answer} {:?}", after.place), wanted.to_string());
+        expect(comparison, &Call::PlaceAtTick { tick: tick as u64 }, &a, &before, wanted.to_string(), place);
     }
-    let square = Draft::of(CLOSED, &[2; 4], &[0, 6, 0, -6], None).bytes();
-    let (answer, after) = comparison.compare(&Call::RunnerAtTick { tick: u64::MAX }, &square, &lent(vec![]));
-    expect(comparison, format!("{answer} {:?}", &after.words[..2]), "0 [3, 1]".to_string());
-
-    for (sheet, wanted) in read_or_refused() {
-        let (answer, _) = comparison.compare(&Call::Read, &sheet, &lent(vec![]));
-        expect(comparison, answer.to_string(), wanted.to_string());
-    }
-
-    for (number, word) in WORDS.iter().enumerate().skip(1) {
-        expect(comparison, header_number(word).to_string(), number.to_string());
-    }
-    // 0 where the header has no number for a lack of room
-    expect(comparison, header_number("room").to_string(), ROOM.to_string());
-    println!("worked courses: {figures} figures of 01 compared");
+    refusals_and_far_tick(comparison);
+    println!("worked courses: {} comparisons with the figures of group W", comparison.tally.compared(Part::Worked));
 }
 
-/// The number that include/station.h gives to a word.
-fn header_number(word: &str) -> u64 {
-    let header = include_str!("../../../../include/station.h");
-    let name = format!("STATION_{} = ", word.to_uppercase());
-    let digits = header.split(&name).nth(1).unwrap_or_default();
-    digits.chars().map_while(|digit| digit.to_digit(10)).fold(0, |number, digit| number * 10 + u64::from(digit))
+/// W8's tick stands at 7, which is offset 1 of leg 3; and W10.
+fn refusals_and_far_tick(comparison: &mut Comparison) {
+    let lent = Lent { list: vec![], words: vec![u64::MAX; 3], place: vec![] };
+    let square = Draft::of(CLOSED, &[2; 4], &[0, 6, 0, -6], None).bytes();
+    let runner = |answer: u64, after: &Lent| format!("{answer} {:?}", &after.words[..2]);
+    expect(comparison, &Call::RunnerAtTick { tick: u64::MAX }, &square, &lent, "0 [3, 1]".to_string(), runner);
+    for (sheet, wanted) in read_or_refused() {
+        expect(comparison, &Call::Read, &sheet, &lent, wanted.to_string(), |answer, _| answer.to_string());
+    }
 }

@@ -1,0 +1,99 @@
+/* What include/station.h says, for src/header.rs: each enumerator by its name without STATION_, the words, and the functions over structs. A
+ * new enumerator of the header belongs in the list; evidence fails while it is not there. */
+#include "station.h"
+
+struct entry {
+    const char *name;
+    uint64_t value;
+};
+
+#define ENTRY(name) {#name, STATION_##name}
+
+static const struct entry entries[] = {
+    ENTRY(DONE), ENTRY(TORN), ENTRY(EDITION), ENTRY(ENDS), ENTRY(POINTS), ENTRY(SIZE), ENTRY(LEG),
+    ENTRY(REACH), ENTRY(SLOPE), ENTRY(SHELF), ENTRY(PAST), ENTRY(ADRIFT), ENTRY(BEND), ENTRY(LANDED),
+    ENTRY(FREE), ENTRY(HELD), ENTRY(CLOSED), ENTRY(LONGEST_SHEET), ENTRY(LONGEST_LIST),
+};
+
+/* The i-th enumerator, or 0 past the last. */
+const struct entry *header_entry(size_t i)
+{
+    return i < sizeof entries / sizeof entries[0] ? &entries[i] : 0;
+}
+
+/* The header's word for a number. */
+const char *header_word(uint64_t number)
+{
+    return station_word(number);
+}
+
+/* The six calls by the header's functions over structs, in the form of the calls themselves, so that evidence can compare them alike. The
+ * structs hold before a call what out holds. Where out is too short for a struct, and for laying out, there is only the call itself. */
+
+uint64_t structs_read(const uint8_t *sheet, size_t n, uint64_t *out, size_t m)
+{
+    if (m < 3)
+        return station_read(sheet, n, out, m);
+    struct station_course course = {out[0], out[1], out[2]};
+    uint64_t answer = station_read_into(sheet, n, &course);
+    out[0] = course.kind;
+    out[1] = course.waypoints;
+    out[2] = course.ticks;
+    return answer;
+}
+
+uint64_t structs_lay_out(const uint8_t *sheet, size_t n, int64_t *list, size_t k)
+{
+    return station_lay_out(sheet, n, list, k);
+}
+
+static void put_place(const struct station_place *place, int64_t *out)
+{
+    out[0] = place->north;
+    out[1] = place->east;
+    out[2] = place->up;
+}
+
+uint64_t structs_place_at_tick(const uint8_t *sheet, size_t n, const int64_t *list, size_t k, uint64_t tick, int64_t *out, size_t m)
+{
+    if (m < 3)
+        return station_place_at_tick(sheet, n, list, k, tick, out, m);
+    struct station_place place = {out[0], out[1], out[2]};
+    uint64_t answer = station_place_at_tick_into(sheet, n, list, k, tick, &place);
+    put_place(&place, out);
+    return answer;
+}
+
+uint64_t structs_place_of_runner(const uint8_t *sheet, size_t n, const int64_t *list, size_t k, uint64_t leg, uint64_t offset,
+                                 int64_t *out, size_t m)
+{
+    if (m < 3)
+        return station_place_of_runner(sheet, n, list, k, leg, offset, out, m);
+    struct station_place place = {out[0], out[1], out[2]};
+    struct station_runner runner = {leg, offset};
+    uint64_t answer = station_place_of_runner_into(sheet, n, list, k, runner, &place);
+    put_place(&place, out);
+    return answer;
+}
+
+uint64_t structs_runner_at_tick(const uint8_t *sheet, size_t n, uint64_t tick, uint64_t *out, size_t m)
+{
+    if (m < 2)
+        return station_runner_at_tick(sheet, n, tick, out, m);
+    struct station_runner runner = {out[0], out[1]};
+    uint64_t answer = station_runner_at_tick_into(sheet, n, tick, &runner);
+    out[0] = runner.leg;
+    out[1] = runner.offset;
+    return answer;
+}
+
+uint64_t structs_step(const uint8_t *sheet, size_t n, uint64_t *runner, size_t m)
+{
+    if (m < 2)
+        return station_step(sheet, n, runner, m);
+    struct station_runner record = {runner[0], runner[1]};
+    uint64_t answer = station_step_runner(sheet, n, &record);
+    runner[0] = record.leg;
+    runner[1] = record.offset;
+    return answer;
+}

@@ -1,0 +1,109 @@
+//! The parts of the run with what each compared. A part that compared nothing fails the run; harness/mutants shows of each part that a
+//! fault can trip it.
+
+/// One part of the run.
+#[derive(Clone, Copy, PartialEq, Eq, Debug)]
+pub enum Part {
+    /// The figures of group W.
+    Worked,
+    /// The numbers and words of include/station.h.
+    Header,
+    /// Every call of the library on random, boundary and damaged sheets.
+    Calls,
+    /// The header's functions over structs on some of the same calls.
+    Structs,
+    /// The C files of the benchmark on them.
+    CFiles,
+    /// The Rust wrapper on some of them.
+    Wrapper,
+    /// What was lent: no fence touched, no sheet written.
+    Memory,
+    /// Each number that a call tests was reached, no other.
+    Answers,
+    /// Bend numbers against the elimination in floats.
+    Bends,
+    /// Places against the elimination in floats.
+    Places,
+    /// Places against 004's programs.
+    Pcuspl,
+    /// E1 to E4 of the exact spline.
+    Spline,
+    /// Bend numbers against the exact spline.
+    ExactBends,
+    /// Places against the exact spline.
+    ExactPlaces,
+    /// Places and runners at far ticks.
+    FarTicks,
+    /// Steps against the runner at the tick.
+    Steps,
+    /// Open courses, stepped to the end and on.
+    OpenEnds,
+    /// One runner moved on for ten years.
+    OnFoot,
+}
+
+/// The parts' names, in the order above.
+pub const NAMES: [&str; 18] = [
+    "worked",
+    "header",
+    "calls",
+    "structs",
+    "c-files",
+    "wrapper",
+    "memory",
+    "answers",
+    "bends",
+    "places",
+    "pcuspl",
+    "spline",
+    "exact-bends",
+    "exact-places",
+    "far-ticks",
+    "steps",
+    "open-ends",
+    "on-foot",
+];
+
+impl Part {
+    pub fn name(self) -> &'static str {
+        NAMES[self as usize]
+    }
+}
+
+/// What each part compared, and what differed.
+#[derive(Default)]
+pub struct Tally {
+    compared: [u64; NAMES.len()],
+    differences: [u64; NAMES.len()],
+}
+
+impl Tally {
+    /// One comparison; `what` says what differs where it does not hold. Only the first differences are printed.
+    pub fn check(&mut self, part: Part, holds: bool, what: impl FnOnce() -> String) {
+        self.compared[part as usize] += 1;
+        if !holds {
+            self.differences[part as usize] += 1;
+            if self.differences() <= 10 {
+                println!("DIFFERENCE ({}): {}", part.name(), what());
+            }
+        }
+    }
+
+    pub fn compared(&self, part: Part) -> u64 {
+        self.compared[part as usize]
+    }
+
+    pub fn differences(&self) -> u64 {
+        self.differences.iter().sum()
+    }
+
+    /// Prints the table; whether each part compared something and nothing differed.
+    pub fn closed(&self) -> bool {
+        println!("{:<16} {:>12} {:>12}", "part", "compared", "differences");
+        for (name, (compared, differences)) in NAMES.iter().zip(self.compared.iter().zip(self.differences)) {
+            let nothing = if *compared == 0 { "   NOTHING COMPARED" } else { "" };
+            println!("  {name:<14} {compared:>12} {differences:>12}{nothing}");
+        }
+        self.differences() == 0 && self.compared.iter().all(|compared| *compared > 0)
+    }
+}

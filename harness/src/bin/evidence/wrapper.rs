@@ -1,0 +1,36 @@
+//! The Rust wrapper's calls with plain numbers in place of its types: all that this program knows of them.
+
+pub use harness::station::Refusal;
+use harness::station::{self, Runner};
+
+/// Kind, N, P.
+pub fn read(sheet: &[u8]) -> Result<[u64; 3], Refusal> {
+    station::read(sheet).map(|course| [course.kind as u64, course.waypoints as u64, course.ticks])
+}
+
+pub fn lay_out(sheet: &[u8], list: &mut [i64]) -> Result<(), Refusal> {
+    station::lay_out(sheet, list)
+}
+
+/// North, east, up.
+pub fn place_at_tick(sheet: &[u8], list: &[i64], tick: u64) -> Result<[i64; 3], Refusal> {
+    station::place_at_tick(sheet, list, tick).map(Into::into)
+}
+
+/// North, east, up.
+pub fn place_of_runner(sheet: &[u8], list: &[i64], [leg, offset]: [u64; 2]) -> Result<[i64; 3], Refusal> {
+    station::place_of_runner(sheet, list, Runner { leg, offset }).map(Into::into)
+}
+
+/// Leg, offset.
+pub fn runner_at_tick(sheet: &[u8], tick: u64) -> Result<[u64; 2], Refusal> {
+    station::runner_at_tick(sheet, tick).map(|runner| [runner.leg, runner.offset])
+}
+
+/// Leg and offset, moved on in place.
+pub fn step(sheet: &[u8], runner: &mut [u64; 2]) -> Result<(), Refusal> {
+    let mut moved = Runner { leg: runner[0], offset: runner[1] };
+    let answer = station::step(sheet, &mut moved);
+    *runner = [moved.leg, moved.offset];
+    answer
+}

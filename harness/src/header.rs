@@ -1,0 +1,50 @@
+//! What include/station.h says, by a C file that includes it (c/header.c) and by its text: for the part `header` of the evidence.
+
+use std::ffi::{c_char, CStr};
+
+/// The header's text.
+const TEXT: &str = include_str!("../../include/station.h");
+
+/// c/header.c's entry.
+#[repr(C)]
+struct Entry {
+    name: *const c_char,
+    value: u64,
+}
+
+extern "C" {
+    fn header_entry(i: usize) -> *const Entry;
+    fn header_word(number: u64) -> *const c_char;
+}
+
+/// A C string as ours; none for a null pointer.
+///
+/// # Safety
+/// The pointer is null or names a C string that stays.
+unsafe fn owned(text: *const c_char) -> Option<String> {
+    (!text.is_null()).then(|| CStr::from_ptr(text).to_string_lossy().into_owned())
+}
+
+/// The enumerators as the compiler has them, by their names without STATION_.
+pub fn compiled() -> Vec<(String, u64)> {
+    (0..)
+        // SAFETY: entries are static.
+        .map_while(|i| unsafe { header_entry(i).as_ref().map(|entry| (owned(entry.name).unwrap_or_default(), entry.value)) })
+        .collect()
+}
+
+/// The names of all enumerators that the text sets, without STATION_.
+pub fn written() -> Vec<String> {
+    let names = TEXT.split("STATION_").skip(1).map(|rest| {
+        let name: String = rest.chars().take_while(|letter| letter.is_ascii_alphanumeric() || *letter == '_').collect();
+        let set = rest[name.len()..].trim_start().strip_prefix('=').is_some_and(|value| !value.starts_with('='));
+        (name, set)
+    });
+    names.filter(|(_, set)| *set).map(|(name, _)| name).collect()
+}
+
+/// The header's word for a number.
+pub fn word(number: u64) -> Option<String> {
+    // SAFETY: null or a string of the program.
+    unsafe { owned(header_word(number)) }
+}
