@@ -1,4 +1,4 @@
-// Ticks and runners (P3, P4, group M): the runner from a tick, and the step. For place, the stand's program and the C boundary.
+// Ticks and runners (P3, P4, group M): the runner from a tick, and the step. For place and the C boundary.
 mod steps;
 mod ticks;
 
