@@ -1,6 +1,6 @@
 -- What the two entry points share: the first two links of their chain, reading's refusal and 9; and what is known behind them, as `Fitting` says.
 use mathlib.Core.Path.{_≡_, sym, ap, _∙_}
-use mathlib.Core.Bool.{true, false}
+use mathlib.Core.Bool.{Bool, true, false}
 use mathlib.Core.List.{List}
 use Prim.Native.Nat.{ℕ, _*_, _≤_}
 use native.Mathlib.Omega.{arith}
@@ -30,34 +30,33 @@ use Rattle.place.proofs.Answer.{Answers, answers-with}
 abbrev pub behind : List ℕ → List ℤ → Told → Told
 behind s list rest = passOn (readSheet s) (guard (short s (length list)) Shelf rest)
 
-module _ (x : Placed) (list : List ℤ) (rest : Told) where
-  pub read-refused : (s : List ℕ) (answer : Reading) (q r : Refusal)
-      → told answer ≡ told (readSheet s) → answer ≡ Refused q → Carries answer r → Answers x (refused r) → Answers x (behind s list rest)
-  read-refused s answer q r e a b h = answers-with x h (passed-on s answer e q r (guard (short s (length list)) Shelf rest) a b)
+-- reading's refusal is passed on
+pub read-refused : (x : Placed) (s : List ℕ) (list : List ℤ) (rest : Told) (answer : Reading) (q r : Refusal)
+    → told answer ≡ told (readSheet s) → answer ≡ Refused q → Carries answer r → Answers x (refused r) → Answers x (behind s list rest)
+read-refused x s list rest answer q r e a b h = answers-with x h (passed-on s answer e q r (guard (short s (length list)) Shelf rest) a b)
 
-  module _ {s : List ℕ} {k : EndKind} {n p : ℕ} (c : Course s k n p) where
-    pub shelf-refused : short s (length list) ≡ true → Answers x (refused Shelf) → Answers x (behind s list rest)
-    shelf-refused short h = answers-with x h (simp (c .read, short))
-
-    pub let-on : short s (length list) ≡ false → {t : Told} → Answers x t → t ≡ rest → Answers x (behind s list rest)
-    let-on room h e = answers-with x h (e ∙ simp (c .read, room))
-
-module _ {s : List ℕ} {k : EndKind} {n p : ℕ} (c : Course s k n p) where
+-- the reader answered with a course, and `b` is the code's test of 9
+module _ {s : List ℕ} {k : EndKind} {n p : ℕ} (c : Course s k n p) (list : List ℤ) {b : Bool} (e : b ≡ ltb (length list) (3 * n)) where
   is-points : n ≡ points s
   is-points = read-accepted s k n p (c .read) .2
 
-  pub few-points : n ≤ 512
-  few-points = omega (arith, is-points, accepted-bounds s (read-accepted s k n p (c .read) .0) .few)
+  short-is : (d : Bool) → b ≡ d → short s (length list) ≡ d
+  short-is d q = sym (e ∙ ap (λ m. ltb (length list) (3 * m)) is-points) ∙ q
 
-  -- the code's test of 9
-  pub short-is : (list : List ℤ) → ltb (length list) (3 * n) ≡ short s (length list)
-  short-is list = ap (λ m. ltb (length list) (3 * m)) is-points
+  pub shelf-refused : b ≡ true → (x : Placed) (rest : Told) → Answers x (refused Shelf) → Answers x (behind s list rest)
+  shelf-refused q x rest h = answers-with x h (simp (c .read, short-is true q))
 
-  pub fitting : (list : List ℤ) (l : ℕ) (r : Runner) → l ≡ legCount k n → short s (length list) ≡ false → adrift s r ≡ false → Fitting s list n l r
-  fitting list l r e h a = record {
+  pub let-on : b ≡ false → (x : Placed) (t rest : Told) → Answers x t → t ≡ rest → Answers x (behind s list rest)
+  let-on q x t rest h f = answers-with x h (f ∙ simp (c .read, short-is false q))
+
+  pub fitting : b ≡ false → (l : ℕ) (r : Runner) → l ≡ legCount k n → adrift s r ≡ false → Fitting s list n l r
+  fitting q l r f a = record {
     accepted = read-accepted s k n p (c .read) .0;
     is-points = is-points;
-    is-legs = c .is-read l e .is-legs;
-    room = h;
+    is-legs = c .is-read l f .is-legs;
+    room = short-is false q;
     fits = a;
   }
+
+pub few-points : {s : List ℕ} {k : EndKind} {n p : ℕ} → Course s k n p → n ≤ 512
+few-points {s} {k} {n} {p} c = let a = read-accepted s k n p (c .read) in omega (arith, a .2, accepted-bounds s (a .0) .few)

@@ -1,6 +1,6 @@
 -- `place::place_at_tick` meets its contract: each return is a link of the definition's chain, with the tests that led there.
 use mathlib.Core.Path.{_≡_, refl, sym, ap, _∙_}
-use mathlib.Core.Bool.{true, false, _&&_}
+use mathlib.Core.Bool.{true, _&&_}
 use mathlib.Core.List.{List}
 use Prim.Native.Nat.{ℕ}
 use borrow.Author.Needs.{needs}
@@ -17,7 +17,7 @@ use Rattle.runner.specs.Ticks.{isOpen, past}
 use Rattle.runner.specs.Steps.{adrift}
 use Rattle.runner.proofs.Entry.{Course, course}
 use Rattle.place.specs.Places.{bendOrPlace, placeAtTick}
-use Rattle.place.proofs.Entry.{read-refused, shelf-refused, let-on, few-points, short-is, fitting}
+use Rattle.place.proofs.Entry.{read-refused, shelf-refused, let-on, few-points, fitting}
 use Rattle.place.proofs.Waypoints.{spot-fits}
 use Rattle.place.proofs.place_at_tick.Statement.{statement}
 use Rattle.place.proofs.place_at_tick.Tie as tie
@@ -42,10 +42,7 @@ module _ (c : tie.After-known-told) where
   told-course : Course s (c .before .reading .given .0 .0) (c .before .reading .given .0 .1 .0) (c .before .reading .given .0 .1 .1 .0)
   told-course = course s _ (c .before .before .before .read .ensures) _ _ _ (c .before .reading .given .1)
 
--- the tests of 9 and 10 are the definition's
-short-said : (c : tie.After-is-short) → c .is-short .result ≡ short (s (c .before)) (length (list (c .before)))
-short-said c = c .is-short .ensures ∙ short-is (told-course (c .before)) (list (c .before))
-
+-- the test of 10 is the definition's
 past-said : (c : tie.After-is-past) → let k = c .before .before .before in c .is-past .result ≡ past (s k) (tick k)
 past-said c =
     let k = c .before .before .before in let told = told-course k in
@@ -70,7 +67,7 @@ returns : tie.Need-returns
 unfolding placeAtTick
 returns c =
     let t = c .before .before in let r = t .before .before in let g = r .before .before .args in
-    read-refused (c .refused .result) (g .list .now) _ (g .s .now) _ _ _ (r .read .ensures) (t .enum-told .given .1) (c .before .refusal-of .ensures) (c .refused .ensures)
+    read-refused (c .refused .result) (g .s .now) (g .list .now) _ _ _ _ (r .read .ensures) (t .enum-told .given .1) (c .before .refusal-of .ensures) (c .refused .ensures)
 
 is-short-requires : tie.Need-is-short-requires
 is-short-requires c κs = few-points (told-course c)
@@ -81,8 +78,8 @@ refused-requires-2 c κs = search needs
 returns-2 : tie.Need-returns-2
 unfolding placeAtTick
 returns-2 c =
-    let w = c .before .before in let k = w .before in
-    shelf-refused (c .refused2 .result) (list k) _ (told-course k) (sym (short-said w) ∙ c .before .if1 .taken) (c .refused2 .ensures)
+    let w = c .before .before in
+    shelf-refused (told-course (w .before)) (list (w .before)) (w .is-short .ensures) (c .before .if1 .taken) (c .refused2 .result) _ (c .refused2 .ensures)
 
 is-past-requires : tie.Need-is-past-requires
 is-past-requires c κs = search needs
@@ -90,19 +87,12 @@ is-past-requires c κs = search needs
 refused-requires-3 : tie.Need-refused-requires-3
 refused-requires-3 c κs = search needs
 
--- behind the tests of 9 and 10
-module _ (q : tie.After-is-past) where
-  abbrev e : tie.Else1
-  e = q .before
-
-  room : short (s (e .before .before)) (length (list (e .before .before))) ≡ false
-  room = sym (short-said (e .before)) ∙ e .if1 .left
-
 returns-3 : tie.Need-returns-3
 unfolding placeAtTick
 returns-3 c =
-    let q = c .before .before in let k = e q .before .before in
-    let-on (c .refused3 .result) (list k) _ (told-course k) (room q) {t = refused Past} (c .refused3 .ensures) (simp (sym (past-said q) ∙ c .before .if2 .taken))
+    let q = c .before .before in let w = q .before .before in
+    let-on (told-course (w .before)) (list (w .before)) (w .is-short .ensures) (q .before .if1 .left) (c .refused3 .result) (refused Past) _ (c .refused3 .ensures)
+    (simp (sym (past-said q) ∙ c .before .if2 .taken))
 
 leg-count-requires : tie.Need-leg-count-requires
 leg-count-requires c κs = told-course (c .before .before .before .before) .some
@@ -112,15 +102,16 @@ spot-at-requires c κs = let told = told-course (c .before .before .before .befo
 
 place-at-requires : tie.Need-place-at-requires
 place-at-requires c κs =
-    let g = c .before in let q = g .before .before in let k = e q .before .before in let told = told-course k in
+    let g = c .before in let q = g .before .before in let w = q .before .before in let k = w .before in let told = told-course k in
     let stands = spot-fits (s k) (told .is-read _ (g .leg-count .ensures) .accepted) (tick k) (sym (past-said q) ∙ g .before .if2 .left) in
-    fitting told (list k) (g .leg-count .result) (c .spot-at .result) (g .leg-count .ensures) (room q) (ap (adrift (s k)) (c .spot-at .ensures) ∙ stands)
+    fitting told (list k) (w .is-short .ensures) (q .before .if1 .left) (g .leg-count .result) (c .spot-at .result) (g .leg-count .ensures)
+    (ap (adrift (s k)) (c .spot-at .ensures) ∙ stands)
 
 returns-4 : tie.Need-returns-4
 unfolding placeAtTick
 returns-4 c =
-    let p = c .before in let f = p .before .before in let q = f .before in let k = e q .before .before in
-    let-on (c .place-at .result) (list k) _ (told-course k) (room q) (c .place-at .ensures)
+    let p = c .before in let f = p .before .before in let q = f .before in let w = q .before .before in let k = w .before in
+    let-on (told-course k) (list k) (w .is-short .ensures) (q .before .if1 .left) (c .place-at .result) _ _ (c .place-at .ensures)
     (ap (bendOrPlace (s k) (list k)) (p .spot-at .ensures) ∙ simp (sym (past-said q) ∙ f .if2 .left))
 
 pub place-at-tick-spec : {M : Type 1} → statement M

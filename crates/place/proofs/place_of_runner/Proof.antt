@@ -1,36 +1,24 @@
 -- `place::place_of_runner` meets its contract: each return is a link of the definition's chain, with the tests that led there.
-use mathlib.Core.Path.{_≡_, sym, _∙_}
-use mathlib.Core.Bool.{false}
+use mathlib.Core.Path.{sym, _∙_}
 use mathlib.Core.List.{List}
-use Prim.Native.Nat.{ℕ}
 use borrow.Author.Needs.{needs}
 use lib.IntN.{ℤ}
-use lib.ListN.{length}
-use Rattle.layout.specs.Layout.{short}
-use Rattle.runner.specs.declared.Runner.{Runner}
 use Rattle.runner.proofs.Entry.{Course, course}
 use Rattle.place.specs.Places.{placeOfRunner}
-use Rattle.place.proofs.Entry.{read-refused, shelf-refused, let-on, few-points, short-is, fitting}
+use Rattle.place.proofs.Entry.{read-refused, shelf-refused, let-on, few-points, fitting}
 use Rattle.place.proofs.place_of_runner.Statement.{statement}
 use Rattle.place.proofs.place_of_runner.Tie as tie
 
 -- the reader answered with a course
 module _ (c : tie.After-known-told) where
-  abbrev s : List ℕ
-  s = c .before .before .before .before .before .args .s .now
+  abbrev start : tie.Start
+  start = c .before .before .before .before .before
 
   abbrev list : List ℤ
-  list = c .before .before .before .before .before .args .list .now
+  list = start .args .list .now
 
-  abbrev at : Runner
-  at = c .before .before .before .before .before .args .at
-
-  told-course : Course s (c .before .reading .given .0 .0) (c .before .reading .given .0 .1 .0) (c .before .reading .given .0 .1 .1 .0)
-  told-course = course s _ (c .before .before .before .read .ensures) _ _ _ (c .before .reading .given .1)
-
--- the test of 9 is the definition's
-short-said : (c : tie.After-is-short) → c .is-short .result ≡ short (s (c .before)) (length (list (c .before)))
-short-said c = c .is-short .ensures ∙ short-is (told-course (c .before)) (list (c .before))
+  told-course : let k = c .before .reading .given .0 in Course (start .args .s .now) (k .0) (k .1 .0) (k .1 .1 .0)
+  told-course = course _ _ (c .before .before .before .read .ensures) _ _ _ (c .before .reading .given .1)
 
 read-requires : tie.Need-read-requires
 read-requires c κs = search needs
@@ -51,7 +39,7 @@ returns : tie.Need-returns
 unfolding placeOfRunner
 returns c =
     let t = c .before .before in let r = t .before .before in let g = r .before .before .args in
-    read-refused (c .refused .result) (g .list .now) _ (g .s .now) _ _ _ (r .read .ensures) (t .enum-told .given .1) (c .before .refusal-of .ensures) (c .refused .ensures)
+    read-refused (c .refused .result) (g .s .now) (g .list .now) _ _ _ _ (r .read .ensures) (t .enum-told .given .1) (c .before .refusal-of .ensures) (c .refused .ensures)
 
 is-short-requires : tie.Need-is-short-requires
 is-short-requires c κs = few-points (told-course c)
@@ -62,8 +50,8 @@ refused-requires-2 c κs = search needs
 returns-2 : tie.Need-returns-2
 unfolding placeOfRunner
 returns-2 c =
-    let w = c .before .before in let k = w .before in
-    shelf-refused (c .refused2 .result) (list k) _ (told-course k) (sym (short-said w) ∙ c .before .if1 .taken) (c .refused2 .ensures)
+    let w = c .before .before in
+    shelf-refused (told-course (w .before)) (list (w .before)) (w .is-short .ensures) (c .before .if1 .taken) (c .refused2 .result) _ (c .refused2 .ensures)
 
 leg-count-requires : tie.Need-leg-count-requires
 leg-count-requires c κs = told-course (c .before .before) .some
@@ -74,30 +62,25 @@ is-adrift-requires c κs = told-course (c .before .before .before) .is-read _ (c
 refused-requires-3 : tie.Need-refused-requires-3
 refused-requires-3 c κs = search needs
 
--- behind the tests of 9 and 11
-module _ (q : tie.After-is-adrift) where
-  abbrev e : tie.Else1
-  e = q .before .before
-
-  room : short (s (e .before .before)) (length (list (e .before .before))) ≡ false
-  room = sym (short-said (e .before)) ∙ e .if1 .left
-
 returns-3 : tie.Need-returns-3
 unfolding placeOfRunner
 returns-3 c =
-    let q = c .before .before in let k = e q .before .before in
-    let-on (c .refused3 .result) (list k) _ (told-course k) (room q) (c .refused3 .ensures) (simp (sym (q .is-adrift .ensures) ∙ c .before .if2 .taken))
+    let q = c .before .before in let e = q .before .before in let w = e .before in
+    let-on (told-course (w .before)) (list (w .before)) (w .is-short .ensures) (e .if1 .left) (c .refused3 .result) _ _ (c .refused3 .ensures)
+    (simp (sym (q .is-adrift .ensures) ∙ c .before .if2 .taken))
 
 place-at-requires : tie.Need-place-at-requires
 place-at-requires c κs =
-    let q = c .before in let g = q .before in let k = e q .before .before in
-    fitting (told-course k) (list k) (g .leg-count .result) (at k) (g .leg-count .ensures) (room q) (sym (q .is-adrift .ensures) ∙ c .if2 .left)
+    let q = c .before in let g = q .before in let e = g .before in let w = e .before in let k = w .before in
+    fitting (told-course k) (list k) (w .is-short .ensures) (e .if1 .left) (g .leg-count .result) (start k .args .at) (g .leg-count .ensures)
+    (sym (q .is-adrift .ensures) ∙ c .if2 .left)
 
 returns-4 : tie.Need-returns-4
 unfolding placeOfRunner
 returns-4 c =
-    let f = c .before in let q = f .before in let k = e q .before .before in
-    let-on (c .place-at .result) (list k) _ (told-course k) (room q) (c .place-at .ensures) (simp (sym (q .is-adrift .ensures) ∙ f .if2 .left))
+    let f = c .before in let q = f .before in let e = q .before .before in let w = e .before in
+    let-on (told-course (w .before)) (list (w .before)) (w .is-short .ensures) (e .if1 .left) (c .place-at .result) _ _ (c .place-at .ensures)
+    (simp (sym (q .is-adrift .ensures) ∙ f .if2 .left))
 
 pub place-of-runner-spec : {M : Type 1} → statement M
 place-of-runner-spec =
