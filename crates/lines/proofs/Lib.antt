@@ -1,3 +1,4 @@
 pub mod Decimal
 pub mod Joined
+pub mod Room
 pub mod Worked

@@ -1,12 +1,12 @@
 -- The worked lines, by computing the definition.
 use mathlib.Core.Path.{refl}
 use Rattle.lines.specs.Lines.{decimal, signed, line}
-use Rattle.lines.specs.Theorems.{Line-one, Line-minus}
+use Rattle.lines.specs.Theorems.{LineOne, LineMinus}
 
-pub line-one : Line-one
+pub line-one : LineOne
 unfolding decimal signed line
 line-one = refl
 
-pub line-minus : Line-minus
+pub line-minus : LineMinus
 unfolding decimal signed line
 line-minus = refl

@@ -1,4 +1,4 @@
--- One line of the stand's output (01, The stand's program), as the list of its bytes. For lines and the stand.
+-- One line of the stand's output (T3), as the list of its bytes. For lines and the stand.
 use mathlib.Core.Bool.{cond}
 use mathlib.Core.List.{List, [], _∷_, _++_}
 use Prim.Native.Nat.{ℕ, zero, suc, _+_, _/_, _%_}
@@ -10,15 +10,15 @@ abbrev pub digitsWithin : ℕ → ℕ → List ℕ
 digitsWithin zero n = []
 digitsWithin (suc most) n = cond (ltb n 10) [] (digitsWithin most (n / 10)) ++ ((48 + n % 10) ∷ [])
 
--- "in decimal": a number of 64 bits has at most twenty digits
+-- T3, decimal: a number of 64 bits has at most twenty digits
 unfoldable pub decimal : ℕ → List ℕ
 decimal n = digitsWithin 20 n
 
--- "a minus where negative": 45 is its code
+-- T3, below 0 a minus first: 45 is its code
 unfoldable pub signed : ℤ → List ℕ
 signed (pos n) = decimal n
 signed (negsuc n) = 45 ∷ decimal (suc n)
 
--- "tick, north, east, up, in decimal, one space between", "Every line, the last too, ends in one line feed": their codes are 32 and 10
+-- T3, a tick and its place, spaces between them and a line feed behind: their codes are 32 and 10
 unfoldable pub line : ℕ → ℤ → ℤ → ℤ → List ℕ
 line tick north east up = decimal tick ++ (32 ∷ signed north) ++ (32 ∷ signed east) ++ (32 ∷ signed up) ++ (10 ∷ [])

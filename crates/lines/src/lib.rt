@@ -1,4 +1,4 @@
-// One line of the stand's output (01, The stand's program), put into a lent buffer, so that many lines are written at once.
+// One line of the stand's output (T3), put into a lent buffer, so that many lines are written at once.
 ghost use mathlib.Core.Path.{_≡_};
 ghost use mathlib.Core.List.{[], _∷_, _++_};
 ghost use Prim.Native.Nat.{_+_, _≤_, _<_};
@@ -28,7 +28,7 @@ fn put_byte(out: &mut [u8], at: usize, byte: u8) -> usize
     at + 1
 }
 
-// "a minus where negative", then the digits.
+// Below 0 a minus, then the digits.
 fn put_signed(out: &mut [u8], at: usize, z: i64) -> usize
     requires { ⌜ at + 21 ≤ length (now out) ⌝ }
     ensures { λ r. ⌜ (r ≤ at + 21) × (take r (now (out .exit)) ≡ take at (now (out .entry)) ++ signed z) ⌝ }
