@@ -1,84 +1,77 @@
-// The stand's program (01, The stand's program): one sheet on standard input; on standard output a header and one line per tick 0 to P,
-// or the one line of a refusal.
-mod pieces;
-
-use answers::Outcome;
+// The stand's program (T1 to T4): one sheet on standard input, its course or its refusal on standard output.
+ghost use mathlib.Core.Path.{_≡_};
+ghost use mathlib.Core.Bool.{false, cond};
+ghost use Prim.Native.Nat.{_+_, _≤_};
+ghost use lib.ListN.{length};
+ghost use Rattle.output.specs.Output.{output};
+ghost use Rattle.output.specs.Pieces.{PartAt};
+use libc::STDERR_FILENO;
 use libc::STDIN_FILENO;
 use libc::STDOUT_FILENO;
-use sheet::Reading;
-use sheet::Refusal;
-
-// 01: "The longest sheet has 7,198 bytes."
-const LONGEST_SHEET: usize = 7198;
+use sheet::LONGEST_SHEET;
 
 // 3N, for the most waypoints, 512.
 const MOST_BENDS: usize = 1536;
 
-// 01: "A refused sheet gives one line: refused, the number, the word". (Reading refuses with 1 to 8 alone.) Answers as `write_all` does.
-fn write_refusal(r: Refusal) -> bool {
-    match r {
-        Refusal::Torn => io::write_all(STDOUT_FILENO, b"refused 1 torn\n"),
-        Refusal::Edition => io::write_all(STDOUT_FILENO, b"refused 2 edition\n"),
-        Refusal::Ends => io::write_all(STDOUT_FILENO, b"refused 3 ends\n"),
-        Refusal::Points => io::write_all(STDOUT_FILENO, b"refused 4 points\n"),
-        Refusal::Size => io::write_all(STDOUT_FILENO, b"refused 5 size\n"),
-        Refusal::Leg => io::write_all(STDOUT_FILENO, b"refused 6 leg\n"),
-        Refusal::Reach => io::write_all(STDOUT_FILENO, b"refused 7 reach\n"),
-        Refusal::Slope => io::write_all(STDOUT_FILENO, b"refused 8 slope\n"),
-        Refusal::Shelf => io::write_all(STDOUT_FILENO, b"refused 9 shelf\n"),
-        Refusal::Past => io::write_all(STDOUT_FILENO, b"refused 10 past\n"),
-        Refusal::Adrift => io::write_all(STDOUT_FILENO, b"refused 11 adrift\n"),
-        Refusal::Bend => io::write_all(STDOUT_FILENO, b"refused 12 bend\n"),
-        Refusal::Landed => io::write_all(STDOUT_FILENO, b"refused 13 landed\n"),
-    }
+// How many bytes of the output are handed over, and whether a write failed.
+struct Handed {
+    bytes: usize,
+    failed: bool,
 }
 
-// 01: "one line per tick 0 to P", those before `end`, written in large pieces.
-fn write_lines(s: &[u8], list: &[i64], end: u64) {
-    let mut out = io::large_buffer();
-    let mut tick = 0;
-    while tick < end {
-        let piece = pieces::put_lines(s, list, tick, end, &mut out);
-        let bytes = piece.bytes;
-        io::write_all(STDOUT_FILENO, &out[..bytes]);
-        if piece.next <= tick {
-            return;
+// Writes a part of the output, the one that starts after the `sent` bytes before it.
+fn hand_part(input: &[u8], sent: usize, part: &[u8]) -> Handed
+    requires { ⌜ PartAt (output (now input)) sent (now part) ⌝ }
+    ensures { λ r. ⌜ r .bytes ≡ sent + cond (r .failed) 0 (length (now (part .entry))) ⌝ }
+{
+    if io::write_all(STDOUT_FILENO, part) {
+        Handed {
+            bytes: sent + part.len(),
+            failed: false,
         }
-        tick = piece.next;
-    }
-}
-
-// The whole output for a sheet.
-fn write_course(s: &[u8]) {
-    let reading = sheet::read(s);
-    let Reading::Course {
-        kind: _,
-        points: _,
-        ticks,
-    } = reading
-    else {
-        write_refusal(answers::refusal_of(reading));
-        return;
-    };
-    let mut list = [0i64; MOST_BENDS];
-    match layout::lay_out(s, &mut list) {
-        Outcome::Refused(r) => {
-            write_refusal(r);
-        }
-        Outcome::Done => {
-            io::write_all(STDOUT_FILENO, b"tick north east up\n");
-            write_lines(s, &list, ticks + 1);
-        }
-    }
-}
-
-// 01: "Input beyond 7,198 bytes counts as torn": one byte more is asked for.
-fn main() {
-    let mut sheet = [0u8; LONGEST_SHEET + 1];
-    let n = io::read_full(STDIN_FILENO, &mut sheet);
-    if LONGEST_SHEET < n {
-        write_refusal(Refusal::Torn);
     } else {
-        write_course(&sheet[..n]);
+        Handed {
+            bytes: sent,
+            failed: true,
+        }
+    }
+}
+
+// Hands the output over, piece after piece: all of it, unless a write fails.
+fn hand_over(input: &[u8]) -> Handed
+    ensures { λ r. ⌜ r .bytes ≤ length (output (now (input .entry))) ⌝ }
+    ensures whole { λ r. ⌜ (r .failed ≡ false → r .bytes ≡ length (output (now (input .entry)))) ⌝ }
+{
+    let mut list = [0i64; MOST_BENDS];
+    let mut out = io::large_buffer();
+    let mut piece = output::begin(input, &mut list, &mut out);
+    let mut sent = 0;
+    while 0 < piece.bytes {
+        let bytes = piece.bytes;
+        let handed = hand_part(input, sent, &out[..bytes]);
+        if handed.failed {
+            return handed;
+        }
+        sent = handed.bytes;
+        piece = output::put_lines(input, &list, piece.next, piece.end, &mut out);
+    }
+    Handed {
+        bytes: sent,
+        failed: false,
+    }
+}
+
+// One byte more than the longest sheet is asked for (T1). At the end of its input a read gives 0 again; where it fails, or has more, the input was not read whole.
+fn main() {
+    let mut input = [0u8; LONGEST_SHEET + 1];
+    let n = io::read_full(STDIN_FILENO, &mut input);
+    let mut more = [0u8; 1];
+    if n <= LONGEST_SHEET && libc::read(STDIN_FILENO, &mut more) != 0 {
+        io::write_all(STDERR_FILENO, b"stand: cannot read standard input\n");
+        return;
+    }
+    let handed = hand_over(&input[..n]);
+    if handed.failed && os::errno() != libc::EPIPE {
+        io::write_all(STDERR_FILENO, b"stand: cannot write standard output\n");
     }
 }

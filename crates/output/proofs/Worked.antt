@@ -1,4 +1,4 @@
--- Course A's lines come out as in 01, by computing the definitions.
+-- The two worked outputs, by computing the definitions.
 use mathlib.Core.Path.{refl}
 use Rattle.rounding.specs.Rounded.{floor, rounded}
 use Rattle.systems.specs.Passes.{target, renewed, turn, sweep, pass, passes}
@@ -11,9 +11,13 @@ use Rattle.layout.specs.Layout.{allBends, layOut, laidOut}
 use Rattle.runner.specs.Ticks.{walk, spotAt}
 use Rattle.place.specs.Places.{bendOutside, placeOn, placeAtTick}
 use Rattle.lines.specs.Lines.{decimal, signed, line}
-use Rattle.stand.specs.Output.{lineAt, linesFrom}
-use Rattle.stand.specs.Theorems.{CourseA}
+use Rattle.output.specs.Output.{lineAt, linesFrom, output}
+use Rattle.output.specs.Theorems.{CourseA, LegRefused}
 
 pub course-a : CourseA
-unfolding floor rounded target renewed turn sweep pass passes be16 be32 signed32 anyBelow sumBelow readBy next prev stepAfter stepBefore innerRow freeRow heldStartRow heldEndRow along rowOf rowsBy numerator position course allBends layOut laidOut walk spotAt bendOutside placeOn placeAtTick decimal signed line lineAt linesFrom
+unfolding floor rounded target renewed turn sweep pass passes be16 be32 signed32 anyBelow sumBelow readBy next prev stepAfter stepBefore innerRow freeRow heldStartRow heldEndRow along rowOf rowsBy numerator position course allBends layOut laidOut walk spotAt bendOutside placeOn placeAtTick decimal signed line lineAt linesFrom output
 course-a = refl
+
+pub leg-refused : LegRefused
+unfolding be16 be32 signed32 anyBelow sumBelow readBy output
+leg-refused = refl

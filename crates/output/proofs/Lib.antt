@@ -1,0 +1,5 @@
+pub mod Answered
+pub mod Begun
+pub mod Lines
+pub mod Short
+pub mod Worked
