@@ -19,6 +19,10 @@ use Rattle.station.proofs.Claim.{claim}
 use Rattle.station.proofs.Own.{own-laid}
 use Rattle.courses.proofs.Starred.{starred-right}
 use Rattle.courses.proofs.Theorems.{chord-not-near, free-pair-unbent}
+use Rattle.lines.proofs.Worked.{line-one, line-minus}
+use Rattle.lines.proofs.Room.{line-short}
+use Rattle.output.proofs.Answered.{accepted-output, every-tick}
+use Rattle.output.proofs.Worked.{course-a, leg-refused}
 use Rattle.claims.specs.Claims.{Claims}
 use Rattle.claims.proofs.Refused.{refusal-passed-on, refused-keeps-list, refused-keeps-record}
 
@@ -45,6 +49,13 @@ claims = record {
     closed-steps = closed-steps;
     open-steps = open-steps;
     step-before = step-before;
+    accepted-output = accepted-output;
+    every-tick = every-tick;
+    line-one = line-one;
+    line-minus = line-minus;
+    line-short = line-short;
+    leg-refused = leg-refused;
+    course-a = course-a;
     starred-right = starred-right;
     free-pair-unbent = free-pair-unbent;
     chord-not-near = chord-not-near;

@@ -9,6 +9,8 @@ use Rattle.place.specs.Theorems.{LegEndsMet, WaypointMetAtTick, WaypointMetByRu
 use Rattle.station.specs.Claim.{Claim, OwnLaid}
 use Rattle.courses.specs.Starred.{StarredRight}
 use Rattle.courses.specs.Theorems.{ChordNotNear, FreePairUnbent}
+use Rattle.lines.specs.Theorems.{LineOne, LineMinus, LineShort}
+use Rattle.output.specs.Theorems.{EveryTick, AcceptedOutput, CourseA, LegRefused}
 use Rattle.claims.specs.Refused.{RefusalPassedOn, RefusedKeepsList, RefusedKeepsRecord}
 
 -- D1: a bad input gets its number, and a refused call changes nothing. (That calls end and are safe is proved of every function, by the checker itself.)
@@ -48,6 +50,17 @@ pub record Demand2 : Type 0 where
   pub open-steps : OpenSteps
   -- N13, K7: landed is said at the last tick alone
   pub step-before : StepBefore
+  -- T2: the output of an accepted sheet, with a line for every tick
+  pub accepted-output : AcceptedOutput
+  pub every-tick : EveryTick
+  -- T3
+  pub line-one : LineOne
+  pub line-minus : LineMinus
+  pub line-short : LineShort
+  -- T4
+  pub leg-refused : LegRefused
+  -- T5
+  pub course-a : CourseA
   -- W1 to W8, and W9 at one pair of values
   pub starred-right : StarredRight
   -- W9 for all values
