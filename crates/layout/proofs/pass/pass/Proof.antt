@@ -1,4 +1,4 @@
--- `layout::pass::pass` meets its contract: each turn, at an end or between, is one step of the pass (`Through` of proofs/Sweep), and all numbers stay small
+-- `layout::pass::pass` meets its contract: each turn, at an end or between, is the definition's (`Through` of proofs/Sweep), and all numbers stay small
 -- because they are those of some count of passes from zeros.
 use mathlib.Core.Path.{_≡_, refl, sym, ap, _∙_, subst}
 use mathlib.Core.Bool.{Bool, true, false, _||_, false≢true}
