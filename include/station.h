@@ -19,8 +19,8 @@
  * [measured]
  *   format:           elf64-x86-64, for Linux (System V calls)
  *   outside symbols:  memset
- *   code:             4317 bytes with constants, data 0, zeroed data 0
- *   deepest stack:    272 bytes (read 136, lay_out 272, place_at_tick 248, place_of_runner 248, runner_at_tick 152, step 168)
+ *   code:             4063 bytes with constants, data 0, zeroed data 0
+ *   deepest stack:    256 bytes (read 136, lay_out 256, place_at_tick 248, place_of_runner 248, runner_at_tick 152, step 152)
  * [/measured]
  */
 #ifndef STATION_H
