@@ -30,6 +30,8 @@ pub record Demand2 : Type 0 where
   -- S9, N4 to N8: the bounds of an accepted sheet
   pub accepted-bounds : AcceptedBounds
   pub longest : Longest
+  -- N13, K7: landed is said at the last tick alone
+  pub step-before : StepBefore
   -- A4, A5: the place by tick is the place of the tick's runner
   pub tick-is-runner : TickIsRunner
   -- R6
@@ -48,8 +50,6 @@ pub record Demand2 : Type 0 where
   pub closed-steps : ClosedSteps
   -- M5
   pub open-steps : OpenSteps
-  -- N13, K7: landed is said at the last tick alone
-  pub step-before : StepBefore
   -- T2: the output of an accepted sheet, with a line for every tick
   pub accepted-output : AcceptedOutput
   pub every-tick : EveryTick

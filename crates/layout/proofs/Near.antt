@@ -10,4 +10,4 @@ course-in-bounds s a axis h = bounds-course s axis h (accepted-bounds s a)
 
 pub laid-out-near : LaidOutNear
 unfolding course
-laid-out-near s a axis h e exact i l = bends-near (course s axis) (course-in-bounds s a axis h) e exact i l
+laid-out-near s a axis h f exact i l = bends-near (course s axis) (course-in-bounds s a axis h) f exact i l

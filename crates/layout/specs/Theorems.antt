@@ -14,5 +14,5 @@ CourseInBounds = (s : List ℕ) → Accepted s → (axis : ℕ) → axis < 3 →
 
 -- L6
 abbrev pub LaidOutNear : Type 0
-LaidOutNear = (s : List ℕ) → Accepted s → (axis : ℕ) → axis < 3 → (e : Curve) → Exact (course s axis) e
-    → (i : ℕ) → i < points s → Eighths 9 (course s axis) e i (at (bends (course s axis)) i)
+LaidOutNear = (s : List ℕ) → Accepted s → (axis : ℕ) → axis < 3 → (f : Curve) → Exact (course s axis) f
+    → (i : ℕ) → i < points s → Eighths 9 (course s axis) f i (at (bends (course s axis)) i)

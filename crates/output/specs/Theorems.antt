@@ -1,4 +1,4 @@
--- What is proved of the output: every tick has its line, and the outputs of two sheets as they are spelled. Proved in stand/proofs/Answered.antt and Worked.antt.
+-- What is proved of the output: every tick has its line, and the outputs of two sheets as they are spelled. Proved in output/proofs/Answered.antt and output/proofs/Worked.antt.
 use mathlib.Core.Path.{_≡_}
 use mathlib.Core.List.{List, [], _∷_, _++_}
 use Prim.Native.Nat.{ℕ, suc, _≤_}
