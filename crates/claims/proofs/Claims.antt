@@ -1,6 +1,5 @@
 -- The one proof of all claims: it names each theorem.
 use Rattle.sheet.proofs.Laws.{read-or-refused, read-accepted, accepted-bounds}
-use Rattle.sheet.proofs.Longest.{longest}
 use Rattle.systems.proofs.Size.{unique, solution-bounded}
 use Rattle.systems.proofs.Existence.{solvable}
 use Rattle.systems.proofs.Distance.{passes-near, forty-passes-near, passes-bounded}
@@ -17,6 +16,7 @@ use Rattle.runner.proofs.Onward.{closed-steps, open-steps, step-before}
 use Rattle.place.proofs.Waypoints.{tick-is-runner, leg-ends-met, waypoint-met-at-tick, waypoint-met-by-runner}
 use Rattle.station.proofs.Claim.{claim}
 use Rattle.station.proofs.Own.{own-laid}
+use Rattle.courses.proofs.Longest.{longest}
 use Rattle.courses.proofs.Starred.{starred-right}
 use Rattle.courses.proofs.Theorems.{chord-not-near, free-pair-unbent}
 use Rattle.lines.proofs.Worked.{line-one, line-minus}

@@ -1,6 +1,6 @@
 -- Every theorem that docs/CLAIMS.md claims: a field for each, its type the statement, in the order of docs/REQUIREMENTS.md. The three demands are
 -- three records; demand 3 is `Claim`. The one proof is proofs/Claims.antt, so that a statement that loses its proof breaks the gate.
-use Rattle.sheet.specs.Theorems.{ReadOrRefused, ReadAccepted, AcceptedBounds, Longest}
+use Rattle.sheet.specs.Theorems.{ReadOrRefused, ReadAccepted, AcceptedBounds}
 use Rattle.systems.specs.Theorems.{Solvable, Unique, SolutionBounded, PassesNear, FortyPassesNear, PassesBounded, EarlyEnd}
 use Rattle.spline.specs.Theorems.{RowGap, RowsFollow, SplineExists, OneCurve, BendsNear, FreePairZeros, BendsBounded, PositionSharp, PositionNear}
 use Rattle.layout.specs.Theorems.{CourseInBounds, LaidOutNear}
@@ -8,7 +8,7 @@ use Rattle.runner.specs.Theorems.{TickStands, OneRunner, ClosedSteps, OpenSteps
 use Rattle.place.specs.Theorems.{LegEndsMet, WaypointMetAtTick, WaypointMetByRunner, TickIsRunner}
 use Rattle.station.specs.Claim.{Claim, OwnLaid}
 use Rattle.courses.specs.Starred.{StarredRight}
-use Rattle.courses.specs.Theorems.{ChordNotNear, FreePairUnbent}
+use Rattle.courses.specs.Theorems.{ChordNotNear, FreePairUnbent, Longest}
 use Rattle.lines.specs.Theorems.{LineOne, LineMinus, LineShort}
 use Rattle.output.specs.Theorems.{EveryTick, AcceptedOutput, CourseA, LegRefused}
 use Rattle.claims.specs.Refused.{RefusalPassedOn, RefusedKeepsList, RefusedKeepsRecord}

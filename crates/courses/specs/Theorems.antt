@@ -1,12 +1,13 @@
--- What is proved of worked courses beside the list: a chord is not near (K4, K8), and a free pair of waypoints is flown straight (W9).
+-- What is proved of worked courses beside the list: a chord is not near (K4, K8), a free pair of waypoints is flown straight (W9), and how long a sheet can be (S9).
 use mathlib.Core.Path.{_≡_}
 use mathlib.Core.List.{List, [], _∷_}
-use Prim.Native.Nat.{ℕ}
+use Prim.Native.Nat.{ℕ, _≤_}
 use lib.IntN.{ℤ, pos}
-use lib.ListN.{replicate}
+use lib.ListN.{length, replicate}
 use Rattle.ends.specs.declared.EndKind.the-variants.{Free}
 use Rattle.sheet.specs.Answers.{Told}
 use Rattle.sheet.specs.Fields.{kind, points}
+use Rattle.sheet.specs.Reading.{Accepted}
 use Rattle.spline.specs.Spline.{Curve, Exact, valueAt}
 use Rattle.spline.specs.Position.{Near}
 use Rattle.layout.specs.Course.{course}
@@ -40,3 +41,8 @@ pub record ChordNotNear : Type 0 where
 -- W9: whatever the values, on each axis
 abbrev pub FreePairUnbent : Type 0
 FreePairUnbent = (s : List ℕ) → kind s ≡ Free → points s ≡ 2 → allBends s ≡ replicate 6 (pos 0)
+
+-- S9: no accepted sheet has more than 7,198 bytes, and one has as many
+pub record Longest : Type 0 where
+  pub most : (s : List ℕ) → Accepted s → length s ≤ 7_198
+  pub reached : (s : List ℕ) × Accepted s × (length s ≡ 7_198)

@@ -5,4 +5,3 @@ pub mod ByKind
 pub mod Lowest
 pub mod Told
 pub mod Laws
-pub mod Longest

@@ -44,8 +44,3 @@ pub record Bounds (s : List ℕ) : Type 0 where
 
 abbrev pub AcceptedBounds : Type 0
 AcceptedBounds = (s : List ℕ) → Accepted s → Bounds s
-
--- S9: no accepted sheet has more than 7,198 bytes, and one has as many
-pub record Longest : Type 0 where
-  pub most : (s : List ℕ) → Accepted s → length s ≤ 7_198
-  pub reached : (s : List ℕ) × Accepted s × (length s ≡ 7_198)

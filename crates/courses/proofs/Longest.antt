@@ -6,13 +6,13 @@ use Prim.Native.Nat.{ℕ, zero, suc, _+_, _-_, _*_, _≤_, _<_}
 use native.Mathlib.Omega.{arith}
 use lib.Dec.{ltb, eqb}
 use lib.ListN.{length, replicate, length-replicate}
 use Rattle.sheet.specs.Bytes.{byte, be16, be32, signed32, anyBelow}
 use Rattle.sheet.specs.Fields.{lengthField, points, leg, waypoint, slope}
 use Rattle.sheet.specs.Reading.{Accepted, legOutside, reachOutside, slopeOutside}
-use Rattle.sheet.specs.Theorems.{Longest}
+use Rattle.courses.specs.Theorems.{Longest}
 use Rattle.sheet.specs.declared.Refusal.the-variants.{Torn, Edition, Ends, Points, Size, Leg, Reach, Slope, Shelf, Past, Adrift, Bend, Landed}
 use Rattle.sheet.proofs.Below.{none-any}
 use Rattle.sheet.proofs.Laws.{accepted-bounds}
 
 -- ---- n legs of 1 tick, then m zeros
 body : ℕ → ℕ → List ℕ
