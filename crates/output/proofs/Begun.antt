@@ -17,7 +17,8 @@ use Rattle.sheet.specs.declared.Reading.the-variants.{Course}
 use Rattle.sheet.proofs.Laws.{read-accepted}
 use Rattle.layout.specs.Layout.{laidOut}
 use Rattle.place.specs.Places.{placeAtTick}
-use Rattle.output.specs.Output.{refusalLine, header, linesFrom, lentList, outputBy, output}
+use Rattle.words.specs.Words.{refusalLine}
+use Rattle.output.specs.Output.{header, linesFrom, lentList, outputBy, output}
 use Rattle.output.specs.Pieces.{AllAnswered, PieceOf}
 use Rattle.output.proofs.Answered.{all-answered, lent-own}
 

@@ -9,34 +9,20 @@ use lib.IntN.{ℤ}
 use lib.ListN.{length, length-append}
 use Rattle.systems.specs.Passes.{at}
 use Rattle.sheet.specs.Reading.{longestSheet, readSheet}
-use Rattle.sheet.specs.declared.Refusal.{Refusal}
-use Rattle.sheet.specs.declared.Refusal.the-variants.{Torn, Edition, Ends, Points, Size, Leg, Reach, Slope, Shelf, Past, Adrift, Bend, Landed}
+use Rattle.sheet.specs.declared.Refusal.the-variants.{Torn}
 use Rattle.sheet.specs.declared.Reading.{Reading}
 use Rattle.sheet.specs.declared.Reading.the-variants.{Course, Refused}
 use Rattle.sheet.proofs.Laws.{read-accepted, accepted-bounds}
 use Rattle.layout.specs.Layout.{laidOut}
 use Rattle.lines.proofs.Room.{line-short}
 use Rattle.place.specs.Places.{placeAtTick}
-use Rattle.output.specs.Output.{refusalLine, header, lineOf, lineAt, linesFrom, lentList, outputBy, output}
+use Rattle.words.specs.Words.{refusalLine}
+use Rattle.words.proofs.Rows.{refusal-short}
+use Rattle.output.specs.Output.{header, lineOf, lineAt, linesFrom, lentList, outputBy, output}
 
 -- the lines of all ticks, and the header
 abbrev most : ℕ
 most = 87 * 131_073 + 19
-
-refusal-short : (r : Refusal) → length (refusalLine r) ≤ 19
-refusal-short Torn = omega arith
-refusal-short Edition = omega arith
-refusal-short Ends = omega arith
-refusal-short Points = omega arith
-refusal-short Size = omega arith
-refusal-short Leg = omega arith
-refusal-short Reach = omega arith
-refusal-short Slope = omega arith
-refusal-short Shelf = omega arith
-refusal-short Past = omega arith
-refusal-short Adrift = omega arith
-refusal-short Bend = omega arith
-refusal-short Landed = omega arith
 
 cond-short : (b : Bool) (k : ℕ) (x y : List ℕ) → length x ≤ k → length y ≤ k → length (cond b x y) ≤ k
 cond-short true k x y h l = h

@@ -6,36 +6,15 @@ use lib.Dec.{eqb, ltb}
 use lib.IntN.{ℤ, pos}
 use lib.ListN.{length, replicate}
 use Rattle.systems.specs.Passes.{at}
-use Rattle.sheet.specs.Answers.{numberOf}
 use Rattle.sheet.specs.Reading.{longestSheet, readSheet}
-use Rattle.sheet.specs.declared.Refusal.{Refusal}
-use Rattle.sheet.specs.declared.Refusal.the-variants.{Torn, Edition, Ends, Points, Size, Leg, Reach, Slope, Shelf, Past, Adrift, Bend, Landed}
+use Rattle.sheet.specs.declared.Refusal.the-variants.{Torn}
 use Rattle.sheet.specs.declared.Reading.{Reading}
 use Rattle.sheet.specs.declared.Reading.the-variants.{Course, Refused}
 use Rattle.layout.specs.Layout.{laidOut}
 use Rattle.lines.specs.Ascii.{ascii}
-use Rattle.lines.specs.Lines.{digitsWithin, line}
+use Rattle.lines.specs.Lines.{line}
 use Rattle.place.specs.Places.{placeAtTick}
-
--- group N's words
-abbrev pub word : Refusal → List ℕ
-word Torn = ascii "torn"
-word Edition = ascii "edition"
-word Ends = ascii "ends"
-word Points = ascii "points"
-word Size = ascii "size"
-word Leg = ascii "leg"
-word Reach = ascii "reach"
-word Slope = ascii "slope"
-word Shelf = ascii "shelf"
-word Past = ascii "past"
-word Adrift = ascii "adrift"
-word Bend = ascii "bend"
-word Landed = ascii "landed"
-
--- T4: `refused`, the number in decimal, the word
-abbrev pub refusalLine : Refusal → List ℕ
-refusalLine r = ascii "refused " ++ digitsWithin 20 (numberOf r) ++ ascii " " ++ word r ++ ascii "\n"
+use Rattle.words.specs.Words.{refusalLine}
 
 -- T2, the first line
 abbrev pub header : List ℕ

@@ -1,17 +1,15 @@
 // The stand's output in pieces, each put into a lent buffer: the header or a refusal's line, then the lines of successive ticks (T1 to T4). For the stand.
-mod words;
-
 ghost use mathlib.Core.Path.{_≡_};
 ghost use mathlib.Core.Logic.{_⊎_};
 ghost use Prim.Native.Nat.{_+_, _-_, _≤_, _<_};
 ghost use lib.ListN.{length, take};
-ghost use Rattle.output.specs.Output.{refusalLine, linesFrom, lentList, output};
+ghost use Rattle.output.specs.Output.{linesFrom, lentList, output};
+ghost use Rattle.words.specs.Words.{refusalLine};
 ghost use Rattle.output.specs.Pieces.{AllAnswered, PieceOf};
 use answers::Outcome;
 use sheet::LONGEST_SHEET;
 use sheet::Reading;
 use sheet::Refusal;
-use words::put_refusal;
 
 // The bytes of a piece, and the ticks whose lines come after it: `next` to before `end`.
 pub struct Piece {
@@ -26,7 +24,7 @@ fn refused(out: &mut [u8], refusal: Refusal) -> Piece
     ensures { λ r. ⌜ (r .next ≡ 0) × (r .end ≡ 0) × (r .bytes ≤ length (now (out .exit))) × (take (r .bytes) (now (out .exit)) ≡ refusalLine refusal) ⌝ }
 {
     Piece {
-        bytes: put_refusal(out, refusal),
+        bytes: words::put_refusal(out, refusal),
         next: 0,
         end: 0,
     }

@@ -12,7 +12,8 @@ use Rattle.sheet.proofs.Laws.{accepted-bounds}
 use Rattle.sheet.proofs.Told.{told-injective}
 use Rattle.layout.specs.Layout.{laidOut}
 use Rattle.runner.proofs.Entry.{Course, course}
-use Rattle.output.specs.Output.{refusalLine, header}
+use Rattle.words.specs.Words.{refusalLine}
+use Rattle.output.specs.Output.{header}
 use Rattle.output.proofs.Begun.{torn-output, read-output, refused-begun, header-begun}
 use Rattle.output.proofs.begin.Statement.{statement}
 use Rattle.output.proofs.begin.Tie as tie
