@@ -1,2 +1,3 @@
+-- The one proof of every claim.
 pub mod Refused
 pub mod Claims

@@ -1,2 +1,3 @@
+-- What is claimed.
 pub mod Refused
 pub mod Claims

@@ -1,1 +1,2 @@
+-- What the exported functions leave behind.
 pub mod Written

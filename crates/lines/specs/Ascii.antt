@@ -1,4 +1,4 @@
--- A text as the list of its bytes, for texts without accents: a character's code is its byte. For lines and the stand.
+-- A text as the list of its bytes, for texts without accents: a character's code is its byte. For lines, words and output.
 use mathlib.Core.List.{List, [], _∷_}
 use Prim.Native.Nat.{ℕ}
 use Prim.Native.Char.{code}

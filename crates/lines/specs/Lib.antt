@@ -1,3 +1,4 @@
+-- A line of the stand's output.
 pub mod Ascii
 pub mod Lines
 pub mod Theorems

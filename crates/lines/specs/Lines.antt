@@ -1,4 +1,4 @@
--- One line of the stand's output (T3), as the list of its bytes. For lines and the stand.
+-- One line of the stand's output (T3), as the list of its bytes. For lines, words and output.
 use mathlib.Core.Bool.{cond}
 use mathlib.Core.List.{List, [], _∷_, _++_}
 use Prim.Native.Nat.{ℕ, zero, suc, _+_, _/_, _%_}

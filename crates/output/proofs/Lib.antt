@@ -1,3 +1,4 @@
+-- Why the pieces make up the output.
 pub mod Answered
 pub mod Begun
 pub mod Lines

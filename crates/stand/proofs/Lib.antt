@@ -1,1 +1,2 @@
+-- Why everything is handed over.
 pub mod Turns

@@ -1,1 +1,2 @@
+-- A refusal's line.
 pub mod Words
