@@ -8,10 +8,10 @@ use Rattle.words.specs.Words.{refusalRows}
 use Rattle.words.proofs.put_refusal.Statement.{statement}
 use Rattle.words.proofs.put_refusal.Tie as tie
 
--- one line by itself first, so that a wrong word is told by its bytes
-leg-line : (c : tie.After-put-row-arg2) (κs : Lfts 2) → Tried
+-- tried at the line of 6 by itself, so that a wrong word is told by its bytes
+leg-tried : (c : tie.After-put-row-arg2) (κs : Lfts 2) → Tried
 unfolding refusalRows
-leg-line c κs = tried (λ (need : tie.Need-put-row-requires). ap (λ l. take 14 (drop 95 l)) (need c κs .0)) refl
+leg-tried c κs = tried (λ (need : tie.Need-put-row-requires). ap (λ l. take 14 (drop 95 l)) (need c κs .0)) refl
 
 put-row-requires : tie.Need-put-row-requires
 unfolding refusalRows
