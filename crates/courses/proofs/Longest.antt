@@ -10,9 +10,8 @@ use Rattle.sheet.specs.Bytes.{byte, be16, be32, signed32, anyBelow}
 use Rattle.sheet.specs.Fields.{lengthField, points, leg, waypoint, slope}
 use Rattle.sheet.specs.Reading.{Accepted, legOutside, reachOutside, slopeOutside}
 use Rattle.courses.specs.Theorems.{Longest}
-use Rattle.sheet.specs.declared.Refusal.the-variants.{Torn, Edition, Ends, Points, Size, Leg, Reach, Slope, Shelf, Past, Adrift, Bend, Landed}
 use Rattle.sheet.proofs.Below.{none-any}
-use Rattle.sheet.proofs.Laws.{accepted-bounds}
+use Rattle.sheet.proofs.Laws.{passing-accepted, accepted-bounds}
 
 -- ---- n legs of 1 tick, then m zeros
 body : ℕ → ℕ → List ℕ
@@ -79,23 +78,18 @@ rest-number i h = rw (rest i h, rest (i + 1) (omega arith), rest (i + 2) (omega 
 
 accepted : Accepted full
 unfolding full be16 be32 signed32
-accepted Torn h = (λ i. ltb (full-length i) 8 || not (eqb (head .0 i) (full-length i)))
-accepted Edition h = refl
-accepted Ends h = refl
-accepted Points h = ap (λ n. ltb n 2 || ltb 512 n) (head .1)
-accepted Size h = ap (λ n. not (eqb n 7_198)) full-length
-accepted Leg h = none-any (λ i. legOutside (leg full i)) 511 (λ i k. ap legOutside (leg-one i k))
-accepted Reach h =
-    none-any (λ i. anyBelow (λ axis. reachOutside axis (waypoint full axis i)) 3) 512
-    (λ i k. none-any (λ axis. reachOutside axis (waypoint full axis i)) 3 (λ axis l. ap (reachOutside axis) (rest-number (1030 + 12 * i + 4 * axis) (omega arith))))
-accepted Slope h =
-    none-any (λ side. anyBelow (λ axis. slopeOutside (slope full axis side)) 3) 2
-    (λ side k. none-any (λ axis. slopeOutside (slope full axis side)) 3 (λ axis l. ap slopeOutside (rest-number (7174 + 12 * side + 4 * axis) (omega arith))))
-accepted Shelf h = refl
-accepted Past h = refl
-accepted Adrift h = refl
-accepted Bend h = refl
-accepted Landed h = refl
+accepted = passing-accepted full (record {
+  torn = (λ i. ltb (full-length i) 8 || not (eqb (head .0 i) (full-length i)));
+  edition = refl;
+  ends = refl;
+  points = ap (λ n. ltb n 2 || ltb 512 n) (head .1);
+  size = ap (λ n. not (eqb n 7_198)) full-length;
+  leg = none-any (λ i. legOutside (leg full i)) 511 (λ i k. ap legOutside (leg-one i k));
+  reach = none-any (λ i. anyBelow (λ axis. reachOutside axis (waypoint full axis i)) 3) 512
+      (λ i k. none-any (λ axis. reachOutside axis (waypoint full axis i)) 3 (λ axis l. ap (reachOutside axis) (rest-number (1030 + 12 * i + 4 * axis) (omega arith))));
+  slope = none-any (λ side. anyBelow (λ axis. slopeOutside (slope full axis side)) 3) 2
+      (λ side k. none-any (λ axis. slopeOutside (slope full axis side)) 3 (λ axis l. ap slopeOutside (rest-number (7174 + 12 * side + 4 * axis) (omega arith))));
+})
 
 pub longest : Longest
 longest = record {

@@ -19,7 +19,7 @@ use Rattle.sheet.specs.Fields.{kind, points, legs, leg, ticks, waypoints
 use Rattle.sheet.specs.Reading.{Accepted, legOutside, reachOutside, slopeOutside, slopesOutside, applies, lowest, mostPoints, longestSheet, readBy, readSheet}
 use Rattle.sheet.specs.Theorems.{ReadOrRefused, ReadAccepted, Bounds, AcceptedBounds}
 use Rattle.sheet.specs.declared.Refusal.{Refusal}
-use Rattle.sheet.specs.declared.Refusal.the-variants.{Torn, Edition, Ends, Points, Size, Leg, Reach, Slope}
+use Rattle.sheet.specs.declared.Refusal.the-variants.{Torn, Edition, Ends, Points, Size, Leg, Reach, Slope, Shelf, Past, Adrift, Bend, Landed, Page}
 use Rattle.sheet.specs.declared.Reading.{Reading}
 use Rattle.sheet.specs.declared.Reading.the-variants.{Course, Refused}
 use Rattle.sheet.proofs.Below.{or-left, or-right, any-none, sum-at-most, sum-at-least}
@@ -99,6 +99,33 @@ accepted-read s a = sym (
     ∙ passed s Edition (past 2) (a Edition (omega arith))
     ∙ passed s Torn (past 1) (a Torn (omega arith))
     )
+
+-- what passes the eight tests is accepted; reading asks no other number
+pub record Passing (s : List ℕ) : Type 0 where
+  pub torn : applies mostPoints s Torn ≡ false
+  pub edition : applies mostPoints s Edition ≡ false
+  pub ends : applies mostPoints s Ends ≡ false
+  pub points : applies mostPoints s Points ≡ false
+  pub size : applies mostPoints s Size ≡ false
+  pub leg : applies mostPoints s Leg ≡ false
+  pub reach : applies mostPoints s Reach ≡ false
+  pub slope : applies mostPoints s Slope ≡ false
+
+pub passing-accepted : (s : List ℕ) → Passing s → Accepted s
+passing-accepted s p Torn h = p .torn
+passing-accepted s p Edition h = p .edition
+passing-accepted s p Ends h = p .ends
+passing-accepted s p Points h = p .points
+passing-accepted s p Size h = p .size
+passing-accepted s p Leg h = p .leg
+passing-accepted s p Reach h = p .reach
+passing-accepted s p Slope h = p .slope
+passing-accepted s p Shelf h = refl
+passing-accepted s p Past h = refl
+passing-accepted s p Adrift h = refl
+passing-accepted s p Bend h = refl
+passing-accepted s p Landed h = refl
+passing-accepted s p Page h = refl
 
 -- ---- the bounds: each is what the test of its number leaves
 module _ (s : List ℕ) (a : Accepted s) where

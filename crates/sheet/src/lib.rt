@@ -17,7 +17,7 @@ pub use refusals::number_of;
 // S9: the bytes of the longest sheet that is accepted.
 pub const LONGEST_SHEET: usize = 7198;
 
-// The refusals, in the order of their numbers (N1 to N13).
+// The refusals, in the order of their numbers (N1 to N14).
 pub enum Refusal {
     Torn,
     Edition,
@@ -32,6 +32,7 @@ pub enum Refusal {
     Adrift,
     Bend,
     Landed,
+    Page,
 }
 
 // A2: reading's answer, the kind, N and P; or its refusal.

@@ -7,7 +7,7 @@ use lib.ListN.{length, take, drop}
 use Rattle.bytes.specs.Bytes.{slice, indexAfter, indexOf}
 use Rattle.sheet.specs.Answers.{numberOf}
 use Rattle.sheet.specs.declared.Refusal.{Refusal}
-use Rattle.sheet.specs.declared.Refusal.the-variants.{Torn, Edition, Ends, Points, Size, Leg, Reach, Slope, Shelf, Past, Adrift, Bend, Landed}
+use Rattle.sheet.specs.declared.Refusal.the-variants.{Torn, Edition, Ends, Points, Size, Leg, Reach, Slope, Shelf, Past, Adrift, Bend, Landed, Page}
 use Rattle.sheet.proofs.Told.{number-positive}
 use Rattle.words.specs.Words.{refusalLine, refusalRows}
 
@@ -38,6 +38,7 @@ row-of Past = (omega arith, omega arith, refl, refl)
 row-of Adrift = (omega arith, omega arith, refl, refl)
 row-of Bend = (omega arith, omega arith, refl, refl)
 row-of Landed = (omega arith, omega arith, refl, refl)
+row-of Page = (omega arith, omega arith, refl, refl)
 
 -- under a hundred rows: the code's products fit
 few-rows : length refusalRows ≤ 19 * 99

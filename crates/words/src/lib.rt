@@ -32,6 +32,7 @@ pub fn put_refusal(out: &mut [u8], refusal: Refusal) -> usize
                  refused 10 past\n   \
                  refused 11 adrift\n \
                  refused 12 bend\n   \
-                 refused 13 landed\n ";
+                 refused 13 landed\n \
+                 refused 14 page\n   ";
     put_row(rows, refusal, out)
 }
