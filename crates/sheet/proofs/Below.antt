@@ -1,7 +1,8 @@
 -- Laws of the questions and sums over 0, .., n - 1 (specs/Bytes): one more, what an answer tells of each, and bounds.
-use mathlib.Core.Path.{_≡_, refl, ap}
-use mathlib.Core.Bool.{Bool, true, false, _||_, or-true}
+use mathlib.Core.Path.{_≡_, refl, sym, ap, _∙_}
+use mathlib.Core.Bool.{Bool, true, false, _||_, or-true, or-false, or-assoc}
 use Prim.Native.Nat.{ℕ, zero, suc, _+_, _*_, _≤_, _<_}
+use native.Mathlib.Nat.{add-zero}
 use native.Mathlib.Numerals.{add-one}
 use native.Mathlib.Omega.{arith}
 use Rattle.integers.proofs.Order.{le-or-lt}
@@ -50,6 +51,33 @@ any-one p (suc n) i h e =
     le-or-lt n i (anyBelow p (suc n) ≡ true)
     (λ k. let q : i ≡ n = omega arith in rw (← q, e, or-true))
     (λ k. rw (any-one p n i k e))
+
+-- of 0, .., m - 1 it holds: of more as well
+pub any-more : (p : ℕ → Bool) (m n : ℕ) → m ≤ n → anyBelow p m ≡ true → anyBelow p n ≡ true
+unfolding anyBelow
+any-more p m zero h e = let z : m ≡ 0 = omega arith in ap (anyBelow p) (sym z) ∙ e
+any-more p m (suc n) h e =
+    le-or-lt m n (anyBelow p (suc n) ≡ true)
+    (λ k. ap (λ (b : Bool). b || p n) (any-more p m n k e))
+    (λ k. let q : m ≡ suc n = omega arith in ap (anyBelow p) (sym q) ∙ e)
+
+-- asked of i, and of the next m
+pub any-append : (p : ℕ → Bool) (i m : ℕ) → anyBelow p (i + m) ≡ (anyBelow p i || anyBelow (λ k. p (i + k)) m)
+unfolding anyBelow
+any-append p i zero = ap (anyBelow p) (add-zero i) ∙ sym (or-false (anyBelow p i))
+any-append p i (suc m) =
+    let next : i + suc m ≡ suc (i + m) = omega arith in
+    ap (anyBelow p) next ∙ ap (λ (b : Bool). b || p (i + m)) (any-append p i m)
+    ∙ or-assoc (anyBelow p i) (anyBelow (λ k. p (i + k)) m) (p (i + m))
+
+-- not held so far, nor of the next: a loop that returns at the first goes on
+pub none-next : (p : ℕ → Bool) (n : ℕ) → anyBelow p n ≡ false → p n ≡ false → anyBelow p (n + 1) ≡ false
+none-next p n e f = any-step p n ∙ (λ i. e i || f i)
+
+-- asked of three
+pub any-three : (p : ℕ → Bool) {a b c : Bool} → a ≡ p 0 → b ≡ p 1 → c ≡ p 2 → (a || b || c) ≡ anyBelow p 3
+unfolding anyBelow
+any-three p e f g = (λ i. e i || f i || g i)
 
 -- ---- a sum
 pub sum-monotone : (f : ℕ → ℕ) (m n : ℕ) → m ≤ n → sumBelow f m ≤ sumBelow f n

@@ -1,4 +1,4 @@
--- Numbers of 32 bits as the code asks about them: moved up by a constant modulo 2^32, so that their sign needs no test.
+-- Numbers of 32 bits as the code reads them: moved up by 2^31 modulo 2^32, so that their sign needs no test; and what a passed test tells of a number.
 use mathlib.Core.Path.{_≡_, refl, sym, ap, _∙_}
 use mathlib.Core.Bool.{Bool, false, _||_}
 use mathlib.Core.List.{List}
@@ -9,10 +9,13 @@ use borrow.Author.Tests.{lt-ltb, le-ltb, ltb-false}
 use lib.Dec.{ltb, leb·suc-suc}
 use lib.IntN.{ℤ, pos, negsuc, negℤ, natAbs, _-ℤ_}
 use lib.Signed.{ltZ}
+use mir.Syntax.{w64}
+use mir.Val.{toZ, ofZ}
+use Rattle.integers.proofs.Machine.{back, fits-abs}
 use Rattle.integers.proofs.Order.{le-or-lt}
 use Rattle.sheet.specs.Bytes.{be32, signed32, anyBelow}
 use Rattle.sheet.specs.Reading.{outside}
-use Rattle.sheet.proofs.Below.{or-left, or-right}
+use Rattle.sheet.proofs.Below.{or-left, or-right, any-three}
 
 -- ---- the two halves of the range
 pub signed-low : (x : ℕ) → x < 2147483648 → signed32 x ≡ pos x
@@ -36,29 +39,14 @@ signed-size x h =
     (λ k. rw (signed-high x k h) (omega arith))
     (λ k. rw (signed-low x k) (omega arith))
 
--- ---- the limits
-pos-below : (a n : ℕ) → ltZ (pos n) (negℤ (pos a)) ≡ false
-pos-below zero n = le-ltb n 0 (omega arith)
-pos-below (suc a) n = refl
+-- a number that was read, as a test gets it
+pub as-read : {x y : ℤ} → y ≡ x → natAbs y ≤ 2147483648 → toZ w64 (ofZ w64 y) ≡ x
+as-read {y = y} e h = back refl (fits-abs y (omega arith)) ∙ e
 
+-- ---- the limits
 negsuc-below : (a n : ℕ) → ltZ (negsuc n) (negℤ (pos a)) ≡ ltb a (suc n)
 negsuc-below zero n = sym (lt-ltb 0 (suc n) (omega arith))
 negsuc-below (suc a) n = sym (leb·suc-suc (suc a) n)
-
--- one comparison of the number moved up by a
-pub outside-moved : (a b x : ℕ) → x < 4294967296 → a ≤ 2147483648 → b < 2147483648 → ltb (a + b) ((x + a) % 4294967296) ≡ outside a b (signed32 x)
-outside-moved a b x h ha hb =
-    le-or-lt 2147483648 x (ltb (a + b) ((x + a) % 4294967296) ≡ outside a b (signed32 x))
-    (λ k. rw (signed-high x k h, negsuc-below a (4294967295 - x)) (
-    le-or-lt 4294967296 (x + a) (ltb (a + b) ((x + a) % 4294967296) ≡ (ltb a (suc (4294967295 - x)) || false))
-    (λ m. rw (le-ltb (a + b) ((x + a) % 4294967296) (omega arith), le-ltb a (suc (4294967295 - x)) (omega arith)))
-    (λ m. rw (lt-ltb (a + b) ((x + a) % 4294967296) (omega arith), lt-ltb a (suc (4294967295 - x)) (omega arith)))
-    ))
-    (λ k. rw (signed-low x k, pos-below a x) (
-    le-or-lt x b (ltb (a + b) ((x + a) % 4294967296) ≡ ltb b x)
-    (λ m. rw (le-ltb (a + b) ((x + a) % 4294967296) (omega arith), le-ltb b x m))
-    (λ m. rw (lt-ltb (a + b) ((x + a) % 4294967296) (omega arith), lt-ltb b x m))
-    ))
 
 -- within the limits: the size is bounded
 pub within-size : (a : ℕ) (z : ℤ) → outside a a z ≡ false → natAbs z ≤ a
@@ -69,7 +57,5 @@ within-size a (negsuc n) e = ltb-false a (suc n) (sym (negsuc-below a n) ∙ or-
 pub any-axis : (f : ℕ → ℤ → Bool) (s : List ℕ) (at : ℕ) {a b c : Bool}
     → a ≡ f 0 (signed32 (be32 s at)) → b ≡ f 1 (signed32 (be32 s (at + 4))) → c ≡ f 2 (signed32 (be32 s (at + 8)))
     → (a || b || c) ≡ anyBelow (λ axis. f axis (signed32 (be32 s (at + 4 * axis)))) 3
-unfolding anyBelow
 any-axis f s at p q r =
-    let first = ap (λ (n : ℕ). f 0 (signed32 (be32 s n))) (sym (add-zero at)) in
-    (λ i. (p ∙ first) i || q i || r i)
+    any-three (λ axis. f axis (signed32 (be32 s (at + 4 * axis)))) (p ∙ ap (λ (n : ℕ). f 0 (signed32 (be32 s n))) (sym (add-zero at))) q r

@@ -11,8 +11,16 @@ pub use fields::end_of;
 pub use fields::leg_length;
 pub use fields::slope_on;
 pub use fields::waypoint_on;
+pub use limits::leg_outside;
+pub use limits::reach_outside;
+pub use limits::slope_outside;
+pub use reader::kind_of;
 pub use reader::read;
+pub use reader::sheet_length;
 pub use refusals::number_of;
+
+// N4: the largest N.
+pub const MOST_POINTS: usize = 512;
 
 // S9: the bytes of the longest sheet that is accepted.
 pub const LONGEST_SHEET: usize = 7198;

@@ -2,6 +2,7 @@
 ghost use mathlib.Core.Path.{_≡_};
 ghost use mathlib.Core.List.{[], _∷_};
 ghost use Prim.Native.Nat.{_+_, _*_, _≤_, _<_};
+ghost use lib.IntN.{natAbs};
 ghost use lib.ListN.{length};
 ghost use Rattle.sheet.specs.Answers.{told};
 ghost use Rattle.sheet.specs.Bytes.{be16, be32, signed32, anyBelow, sumBelow};
@@ -9,20 +10,19 @@ ghost use Rattle.sheet.specs.Fields.{kindField, kindOf, leg, waypointsFr
 ghost use Rattle.sheet.specs.Reading.{legOutside, reachOutside, slopeOutside, slopesOutside, mostPoints, longestSheet, lowest, readSheet};
 ghost use Rattle.sheet.specs.declared.Refusal.the-variants.{Edition, Ends, Points, Size, Leg, Reach, Slope};
 use crate::LONGEST_SHEET;
+use crate::MOST_POINTS;
 use crate::Reading;
 use crate::Refusal;
+use crate::bytes::read_signed;
 use crate::bytes::read16;
 use crate::bytes::read32;
-use crate::limits::beyond_reach;
-use crate::limits::beyond_slope;
 use crate::limits::leg_outside;
+use crate::limits::reach_outside;
+use crate::limits::slope_outside;
 use ends::EndKind;
 
-// N4: the largest N.
-const MOST_POINTS: usize = 512;
-
-// S4: the kind of a byte that is 0, 1 or 2.
-fn kind_of(byte: u8) -> EndKind
+// S4: the kind of a byte that is 0, 1 or 2. For the writer too.
+pub fn kind_of(byte: u8) -> EndKind
     ensures { λ r. ⌜ r ≡ kindOf byte ⌝ }
 {
     match byte {
@@ -32,8 +32,8 @@ fn kind_of(byte: u8) -> EndKind
     }
 }
 
-// S9: the bytes of a sheet.
-fn sheet_length(kind: EndKind, points: usize) -> usize
+// S9: the bytes of a sheet. For the writer too.
+pub fn sheet_length(kind: EndKind, points: usize) -> usize
     requires { ⌜ (1 ≤ points) × (points < 65536) ⌝ }
     ensures { λ r. ⌜ r ≡ sheetLength kind points ⌝ }
 {
@@ -75,49 +75,49 @@ fn add_legs(s: &[u8], count: usize) -> Legs
     Legs { ticks, outside }
 }
 
-// The bits of a waypoint's three numbers (S7), or of one side's three slopes (S8).
+// A waypoint's three numbers (S7), or one side's three slopes (S8).
 struct Triple {
-    north: u64,
-    east: u64,
-    up: u64,
+    north: i64,
+    east: i64,
+    up: i64,
 }
 
-// The bits of three numbers that stand one behind the other.
+// Three numbers that stand one behind the other.
 fn read_triple(s: &[u8], at: usize) -> Triple
     requires { ⌜ at + 12 ≤ length (now s) ⌝ }
-    ensures bits { λ r. ⌜ (r .north ≡ be32 (now (s .entry)) at) × (r .east ≡ be32 (now (s .entry)) (at + 4)) × (r .up ≡ be32 (now (s .entry)) (at + 8)) ⌝ }
-    ensures fits { λ r. ⌜ (r .north < 4294967296) × (r .east < 4294967296) × (r .up < 4294967296) ⌝ }
+    ensures numbers { λ r. ⌜ (r .north ≡ signed32 (be32 (now (s .entry)) at)) × (r .east ≡ signed32 (be32 (now (s .entry)) (at + 4))) × (r .up ≡ signed32 (be32 (now (s .entry)) (at + 8))) ⌝ }
+    ensures fits { λ r. ⌜ (natAbs (r .north) ≤ 2147483648) × (natAbs (r .east) ≤ 2147483648) × (natAbs (r .up) ≤ 2147483648) ⌝ }
 {
     Triple {
-        north: read32(s, at),
-        east: read32(s, at + 4),
-        up: read32(s, at + 8),
+        north: read_signed(s, at),
+        east: read_signed(s, at + 4),
+        up: read_signed(s, at + 8),
     }
 }
 
 // N7, of the waypoint whose numbers start at `at`. (By returns: with `|` the reader takes a sixth longer.)
-fn waypoint_beyond(s: &[u8], at: usize) -> bool
+fn waypoint_outside(s: &[u8], at: usize) -> bool
     requires { ⌜ at + 12 ≤ length (now s) ⌝ }
     ensures { λ r. ⌜ r ≡ anyBelow (λ axis. reachOutside axis (signed32 (be32 (now (s .entry)) (at + 4 * axis)))) 3 ⌝ }
 {
     let x = read_triple(s, at);
-    if beyond_reach(0, x.north) {
+    if reach_outside(0, x.north) {
         return true;
     }
-    if beyond_reach(1, x.east) {
+    if reach_outside(1, x.east) {
         return true;
     }
-    beyond_reach(2, x.up)
+    reach_outside(2, x.up)
 }
 
 // N7, of the first `count` waypoints.
-fn waypoints_beyond(s: &[u8], from: usize, count: usize) -> bool
+fn waypoints_outside(s: &[u8], from: usize, count: usize) -> bool
     requires { ⌜ (from ≡ waypointsFrom (now s)) × (from + 12 * count ≤ length (now s)) ⌝ }
     ensures { λ r. ⌜ r ≡ anyBelow (λ i. anyBelow (λ axis. reachOutside axis (waypoint (now (s .entry)) axis i)) 3) count ⌝ }
 {
     let mut i = 0;
     while i < count {
-        if waypoint_beyond(s, from + 12 * i) {
+        if waypoint_outside(s, from + 12 * i) {
             return true;
         }
         i = i + 1;
@@ -126,22 +126,22 @@ fn waypoints_beyond(s: &[u8], from: usize, count: usize) -> bool
 }
 
 // N8, of the side whose slopes start at `at`.
-fn side_beyond(s: &[u8], at: usize) -> bool
+fn side_outside(s: &[u8], at: usize) -> bool
     requires { ⌜ at + 12 ≤ length (now s) ⌝ }
     ensures { λ r. ⌜ r ≡ anyBelow (λ axis. slopeOutside (signed32 (be32 (now (s .entry)) (at + 4 * axis)))) 3 ⌝ }
 {
     let x = read_triple(s, at);
-    beyond_slope(x.north) | beyond_slope(x.east) | beyond_slope(x.up)
+    slope_outside(x.north) | slope_outside(x.east) | slope_outside(x.up)
 }
 
 // N8: slopes are a held course's alone (S8).
-fn slopes_beyond(s: &[u8], kind: EndKind, from: usize) -> bool
+fn slopes_outside(s: &[u8], kind: EndKind, from: usize) -> bool
     requires { ⌜ (from ≡ slopesFrom (now s)) × (from + slopeBytes kind ≤ length (now s)) ⌝ }
     ensures { λ r. ⌜ r ≡ slopesOutside kind (now (s .entry)) ⌝ }
 {
     match kind {
         EndKind::Free => false,
-        EndKind::Held => side_beyond(s, from) | side_beyond(s, from + 12),
+        EndKind::Held => side_outside(s, from) | side_outside(s, from + 12),
         EndKind::Closed => false,
     }
 }
@@ -157,10 +157,10 @@ fn read_body(s: &[u8], kind: EndKind, n: usize) -> Reading
         return Reading::Refused(Refusal::Leg);
     }
     let from = 8 + 2 * count;
-    if waypoints_beyond(s, from, n) {
+    if waypoints_outside(s, from, n) {
         return Reading::Refused(Refusal::Reach);
     }
-    if slopes_beyond(s, kind, from + 12 * n) {
+    if slopes_outside(s, kind, from + 12 * n) {
         return Reading::Refused(Refusal::Slope);
     }
     Reading::Course {

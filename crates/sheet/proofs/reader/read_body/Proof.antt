@@ -35,15 +35,15 @@ module _ (c : tie.After-leg-count) where
 asks-leg : (c : tie.After-add-legs) → c .add-legs .result .outside ≡ applies mostPoints (S (c .before)) Leg
 asks-leg c = c .add-legs .ensures .1 ∙ ap (anyBelow (λ i. legOutside (leg (S (c .before)) i))) (is-legs (c .before))
 
-asks-reach : (c : tie.After-waypoints-beyond) → c .waypoints-beyond .result ≡ applies mostPoints (S (c .before .before .before)) Reach
+asks-reach : (c : tie.After-waypoints-outside) → c .waypoints-outside .result ≡ applies mostPoints (S (c .before .before .before)) Reach
 asks-reach c =
     let p = c .before .before .before in
-    c .waypoints-beyond .ensures ∙ ap (anyBelow (λ i. anyBelow (λ axis. reachOutside axis (waypoint (S p) axis i)) 3)) (p .before .before .pre .1)
+    c .waypoints-outside .ensures ∙ ap (anyBelow (λ i. anyBelow (λ axis. reachOutside axis (waypoint (S p) axis i)) 3)) (p .before .before .pre .1)
 
-asks-slope : (c : tie.After-slopes-beyond) → c .slopes-beyond .result ≡ applies mostPoints (S (c .before .before .before .before .before)) Slope
+asks-slope : (c : tie.After-slopes-outside) → c .slopes-outside .result ≡ applies mostPoints (S (c .before .before .before .before .before)) Slope
 asks-slope c =
     let p = c .before .before .before .before .before in
-    c .slopes-beyond .ensures ∙ ap (λ (k : EndKind). slopesOutside k (S p)) (p .before .before .pre .0)
+    c .slopes-outside .ensures ∙ ap (λ (k : EndKind). slopesOutside k (S p)) (p .before .before .pre .0)
 
 -- what is left after a test
 leg-passed : (c : tie.Else1) → let s = S (c .before .before) in lowest mostPoints s (past 6) ≡ lowest mostPoints s (past 5)
@@ -68,22 +68,22 @@ mul-from c = search needs
 add-from : tie.Need-add-from
 add-from c = search needs
 
-waypoints-beyond-requires : tie.Need-waypoints-beyond-requires
-waypoints-beyond-requires c κs = (ap (λ (m : ℕ). 8 + 2 * m) (is-legs (c .before .before)), omega (arith, c .before .before .leg-count .ensures))
+waypoints-outside-requires : tie.Need-waypoints-outside-requires
+waypoints-outside-requires c κs = (ap (λ (m : ℕ). 8 + 2 * m) (is-legs (c .before .before)), omega (arith, c .before .before .leg-count .ensures))
 
 returns-2 : tie.Need-returns-2
 returns-2 c =
     let s = S (c .before .before .before .before) in
     stopped s Reach (past 7) (sym (asks-reach (c .before)) ∙ c .if2 .taken) ∙ leg-passed (c .before .before)
 
-mul-slopes-beyond : tie.Need-mul-slopes-beyond
-mul-slopes-beyond c = search needs
+mul-slopes-outside : tie.Need-mul-slopes-outside
+mul-slopes-outside c = search needs
 
-add-slopes-beyond : tie.Need-add-slopes-beyond
-add-slopes-beyond c = search needs
+add-slopes-outside : tie.Need-add-slopes-outside
+add-slopes-outside c = search needs
 
-slopes-beyond-requires : tie.Need-slopes-beyond-requires
-slopes-beyond-requires c κs =
+slopes-outside-requires : tie.Need-slopes-outside-requires
+slopes-outside-requires c κs =
     let p = c .before .before .before .before in
     ((λ i. 8 + 2 * is-legs p i + 12 * p .before .before .pre .1 i), omega (arith, p .leg-count .ensures))
 
@@ -107,10 +107,10 @@ read-body-spec =
     returns
     mul-from
     add-from
-    waypoints-beyond-requires
+    waypoints-outside-requires
     returns-2
-    mul-slopes-beyond
-    add-slopes-beyond
-    slopes-beyond-requires
+    mul-slopes-outside
+    add-slopes-outside
+    slopes-outside-requires
     returns-3
     returns-4)
