@@ -1,0 +1,2 @@
+-- A test in a call's chain.
+pub mod Guards

@@ -1,0 +1,3 @@
+-- The worked lists; the chain of tests both ways, for the proofs of this crate and of those that make sheets.
+pub mod Worked
+pub mod Tests
