@@ -1,0 +1,8 @@
+-- What the writer's functions ask of each other: bytes put over others. Not cited by the entry point's promise.
+use mathlib.Core.List.{List, _++_}
+use Prim.Native.Nat.{ℕ, _+_}
+use lib.ListN.{length, take, drop}
+
+-- the bytes put over those of `out` from a place on; the others stay
+unfoldable pub over : List ℕ → ℕ → List ℕ → List ℕ
+over bytes at out = take at out ++ bytes ++ drop (at + length bytes) out
