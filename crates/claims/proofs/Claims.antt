@@ -1,5 +1,9 @@
 -- The one proof of all claims: it names each theorem.
 use Rattle.sheet.proofs.Laws.{read-or-refused, read-accepted, accepted-bounds}
+use Rattle.lists.proofs.Worked.{answers-tried}
+use Rattle.writer.proofs.Worked.{sheet-tried}
+use Rattle.written.proofs.Accepted.{written-accepted}
+use Rattle.written.proofs.Again.{written-again}
 use Rattle.systems.proofs.Size.{unique, solution-bounded}
 use Rattle.systems.proofs.Existence.{solvable}
 use Rattle.systems.proofs.Distance.{passes-near, forty-passes-near, passes-bounded}
@@ -24,7 +28,7 @@ use Rattle.lines.proofs.Room.{line-short}
 use Rattle.output.proofs.Answered.{accepted-output, every-tick}
 use Rattle.output.proofs.Worked.{course-a, leg-refused}
 use Rattle.claims.specs.Claims.{Claims}
-use Rattle.claims.proofs.Refused.{refusal-passed-on, refused-keeps-list, refused-keeps-record}
+use Rattle.claims.proofs.Refused.{refusal-passed-on, refused-keeps-list, refused-keeps-record, refused-keeps-slice}
 
 pub claims : Claims
 claims = record {
@@ -34,6 +38,7 @@ claims = record {
     refusal-passed-on = refusal-passed-on;
     refused-keeps-list = refused-keeps-list;
     refused-keeps-record = refused-keeps-record;
+    refused-keeps-slice = refused-keeps-slice;
   };
   demand2 = record {
     accepted-bounds = accepted-bounds;
@@ -49,6 +54,8 @@ claims = record {
     one-runner = one-runner;
     closed-steps = closed-steps;
     open-steps = open-steps;
+    written-accepted = written-accepted;
+    written-again = written-again;
     accepted-output = accepted-output;
     every-tick = every-tick;
     line-one = line-one;
@@ -58,6 +65,8 @@ claims = record {
     course-a = course-a;
     starred-right = starred-right;
     free-pair-unbent = free-pair-unbent;
+    answers-tried = answers-tried;
+    sheet-tried = sheet-tried;
     chord-not-near = chord-not-near;
   };
   demand3 = claim;

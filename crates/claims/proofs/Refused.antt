@@ -2,11 +2,13 @@
 use mathlib.Core.Path.{_≡_, refl}
 use lib.ListN.{length}
 use Rattle.spline.proofs.Waypoints.{by-equal}
+use Rattle.lists.specs.Answer.{writeSheet}
+use Rattle.writer.specs.Writing.{writtenInto}
 use Rattle.layout.specs.Layout.{layOut, laidOut}
 use Rattle.runner.specs.Ticks.{runnerAtTick}
 use Rattle.runner.specs.Steps.{moved, stepped, onward}
 use Rattle.place.specs.Places.{placeAtTick, placeOfRunner}
-use Rattle.claims.specs.Refused.{RefusalPassedOn, RefusedKeepsList, RefusedKeepsRecord}
+use Rattle.claims.specs.Refused.{RefusalPassedOn, RefusedKeepsList, RefusedKeepsRecord, RefusedKeepsSlice}
 
 pub refusal-passed-on : RefusalPassedOn
 unfolding layOut placeAtTick placeOfRunner runnerAtTick stepped
@@ -25,3 +27,7 @@ refused-keeps-list s list refused = by-equal (layOut s (length list) .number) 0 
 pub refused-keeps-record : RefusedKeepsRecord
 unfolding onward
 refused-keeps-record s r refused = by-equal (stepped s r .number) 0 (moved s r) r (λ x. x ≡ r) (λ e. absurd (refused e)) (λ _. refl)
+
+pub refused-keeps-slice : RefusedKeepsSlice
+unfolding writtenInto
+refused-keeps-slice c out refused = by-equal (writeSheet c (length out) .number) 0 _ out (λ l. l ≡ out) (λ e. absurd (refused e)) (λ _. refl)

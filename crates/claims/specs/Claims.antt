@@ -1,6 +1,9 @@
 -- Every theorem that docs/CLAIMS.md claims: a field for each, its type the statement, in the order of docs/REQUIREMENTS.md. The three demands are
 -- three records; demand 3 is `Claim`. The one proof is proofs/Claims.antt, so that a statement that loses its proof breaks the gate.
 use Rattle.sheet.specs.Theorems.{ReadOrRefused, ReadAccepted, AcceptedBounds}
+use Rattle.lists.specs.Worked.{AnswersTried}
+use Rattle.writer.specs.Worked.{SheetTried}
+use Rattle.written.specs.Theorems.{WrittenAccepted, WrittenAgain}
 use Rattle.systems.specs.Theorems.{Solvable, Unique, SolutionBounded, PassesNear, FortyPassesNear, PassesBounded, EarlyEnd}
 use Rattle.spline.specs.Theorems.{RowGap, RowsFollow, SplineExists, OneCurve, BendsNear, FreePairZeros, BendsBounded, PositionSharp, PositionNear}
 use Rattle.layout.specs.Theorems.{CourseInBounds, LaidOutNear}
@@ -11,7 +14,7 @@ use Rattle.courses.specs.Starred.{StarredRight}
 use Rattle.courses.specs.Theorems.{ChordNotNear, FreePairUnbent, Longest}
 use Rattle.lines.specs.Theorems.{LineOne, LineMinus, LineShort}
 use Rattle.output.specs.Theorems.{EveryTick, AcceptedOutput, CourseA, LegRefused}
-use Rattle.claims.specs.Refused.{RefusalPassedOn, RefusedKeepsList, RefusedKeepsRecord}
+use Rattle.claims.specs.Refused.{RefusalPassedOn, RefusedKeepsList, RefusedKeepsRecord, RefusedKeepsSlice}
 
 -- D1: a bad input gets its number, and a refused call changes nothing. (That calls end and are safe is proved of every function, by the checker itself.)
 pub record Demand1 : Type 0 where
@@ -24,6 +27,7 @@ pub record Demand1 : Type 0 where
   -- A9
   pub refused-keeps-list : RefusedKeepsList
   pub refused-keeps-record : RefusedKeepsRecord
+  pub refused-keeps-slice : RefusedKeepsSlice
 
 -- D2: rules to the last digit, waypoints met, runners where the count says
 pub record Demand2 : Type 0 where
@@ -50,6 +54,10 @@ pub record Demand2 : Type 0 where
   pub closed-steps : ClosedSteps
   -- M5
   pub open-steps : OpenSteps
+  -- G5
+  pub written-accepted : WrittenAccepted
+  -- G6
+  pub written-again : WrittenAgain
   -- T2: the output of an accepted sheet, with a line for every tick
   pub accepted-output : AcceptedOutput
   pub every-tick : EveryTick
@@ -65,6 +73,9 @@ pub record Demand2 : Type 0 where
   pub starred-right : StarredRight
   -- W9 for all values
   pub free-pair-unbent : FreePairUnbent
+  -- W12
+  pub answers-tried : AnswersTried
+  pub sheet-tried : SheetTried
   -- K4, K8: zeros in place of bend numbers fail on tenfold A
   pub chord-not-near : ChordNotNear
 

@@ -8,6 +8,9 @@ use Rattle.sheet.specs.Answers.{refused}
 use Rattle.sheet.specs.Reading.{readSheet}
 use Rattle.sheet.specs.declared.Reading.the-variants.{Refused}
 use Rattle.sheet.specs.declared.Refusal.{Refusal}
+use Rattle.lists.specs.Lists.{Lists}
+use Rattle.lists.specs.Answer.{writeSheet}
+use Rattle.writer.specs.Writing.{writtenInto}
 use Rattle.layout.specs.Layout.{layOut, laidOut}
 use Rattle.runner.specs.Ticks.{runnerAtTick}
 use Rattle.runner.specs.Steps.{stepped, onward}
@@ -29,6 +32,10 @@ RefusalPassedOn = (s : List ℕ) (q : Refusal) → readSheet s ≡ Refused q →
 abbrev pub RefusedKeepsList : Type 0
 RefusedKeepsList = (s : List ℕ) (list : List ℤ) → ¬ (layOut s (length list) .number ≡ 0) → laidOut s list ≡ list
 
--- .. and a refused step the record
+-- .. a refused step the record ..
 abbrev pub RefusedKeepsRecord : Type 0
 RefusedKeepsRecord = (s : List ℕ) (r : Runner) → ¬ (stepped s r .number ≡ 0) → onward s r ≡ r
+
+-- .. and a refused writing the slice
+abbrev pub RefusedKeepsSlice : Type 0
+RefusedKeepsSlice = (c : Lists) (out : List ℕ) → ¬ (writeSheet c (length out) .number ≡ 0) → writtenInto c out ≡ out

@@ -1,0 +1,3 @@
+-- The theorems of written sheets.
+pub mod Accepted
+pub mod Again

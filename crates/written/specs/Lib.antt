@@ -1,0 +1,2 @@
+-- What is proved of written sheets.
+pub mod Theorems
