@@ -22,7 +22,7 @@ module _ {A : Type 0} where
   unfolding put
   put-none values out h = sym (ap (λ (b : Bool). cond b (values ++ drop (length values) out) out) (lt-leb (length values) (length out) h))
 
-  -- three stores, and two
+  -- three stores, two, and one
   pub three-stored : (a b c : A) (out : List A) → 3 ≤ length out → set (set (set out 0 a) 1 b) 2 c ≡ put (a ∷ b ∷ c ∷ []) out
   three-stored a b c [] h = absurd (omega arith)
   three-stored a b c (x ∷ []) h = absurd (omega arith)
@@ -33,6 +33,10 @@ module _ {A : Type 0} where
   two-stored a b [] h = absurd (omega arith)
   two-stored a b (x ∷ []) h = absurd (omega arith)
   two-stored a b (x ∷ y ∷ out) h = put-room (a ∷ b ∷ []) (x ∷ y ∷ out) h
+
+  pub one-stored : (a : A) (out : List A) → 1 ≤ length out → set out 0 a ≡ put (a ∷ []) out
+  one-stored a [] h = absurd (omega arith)
+  one-stored a (x ∷ out) h = put-room (a ∷ []) (x ∷ out) h
 
 -- a list of three is its elements
 pub three-elements : (l : List ℤ) → length l ≡ 3 → getD l 0 (pos 0) ∷ getD l 1 (pos 0) ∷ getD l 2 (pos 0) ∷ [] ≡ l

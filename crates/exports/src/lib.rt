@@ -2,6 +2,7 @@
 // of group N, and writes its results only when it answers 0 and the lent slice has room for them.
 use answers::Outcome;
 use ends::EndKind;
+use lists::Written;
 use place::Placed;
 use runner::Runner;
 use runner::RunnerAnswer;
@@ -14,6 +15,9 @@ ghost use lib.ListN.{length};
 ghost use Rattle.ends.specs.Ends.{kindNumber};
 ghost use Rattle.sheet.specs.Answers.{told};
 ghost use Rattle.sheet.specs.Reading.{readSheet};
+ghost use Rattle.lists.specs.Lists.{lists};
+ghost use Rattle.lists.specs.Answer.{toldWritten, writeSheet};
+ghost use Rattle.writer.specs.Writing.{writtenInto};
 ghost use Rattle.layout.specs.Layout.{layOut, laidOut};
 ghost use Rattle.runner.specs.Ticks.{runner, toldRunner, runnerAtTick};
 ghost use Rattle.place.specs.Places.{toldPlaced, placeAtTick, placeOfRunner};
@@ -30,7 +34,7 @@ fn kind_number(kind: EndKind) -> u64
     }
 }
 
-// Results at the front of a slice that has room for them: three unsigned, two unsigned, three signed.
+// Results at the front of a slice that has room for them: three unsigned, two unsigned, one unsigned, three signed.
 fn put_three(out: &mut [u64], a: u64, b: u64, c: u64)
     ensures { λ _. ⌜ now (out .exit) ≡ put (a ∷ b ∷ c ∷ []) (now (out .entry)) ⌝ }
 {
@@ -47,6 +51,14 @@ fn put_two(out: &mut [u64], a: u64, b: u64)
     if 2 <= out.len() {
         out[0] = a;
         out[1] = b;
+    }
+}
+
+fn put_one(out: &mut [u64], a: u64)
+    ensures { λ _. ⌜ now (out .exit) ≡ put (a ∷ []) (now (out .entry)) ⌝ }
+{
+    if 1 <= out.len() {
+        out[0] = a;
     }
 }
 
@@ -185,4 +197,35 @@ pub extern "C" fn station_step(sheet: &[u8], lent: &mut [u64]) -> u64
         return tell_runner(no_runner(sheet), lent);
     }
     tell_runner(runner::stepped(sheet, lent[0], lent[1]), lent)
+}
+
+// The length into the slice, or the refusal's number.
+fn tell_written(answer: Written, out: &mut [u64]) -> u64
+    ensures answer { λ r. ⌜ r ≡ toldWritten answer .number ⌝ }
+    ensures out { λ r. ⌜ now (out .exit) ≡ writtenUnsigned (toldWritten answer) (now (out .entry)) ⌝ }
+{
+    match answer {
+        Written::Length(size) => {
+            put_one(out, size as u64);
+            0
+        }
+        Written::Refused(r) => number_of(r),
+    }
+}
+
+// out = the length of the sheet, which stands at the front of `sheet`; it is written there whether or not `out` has room
+#[no_mangle]
+pub extern "C" fn station_write(
+    kind: u64,
+    legs: &[u64],
+    waypoints: &[i64],
+    slopes: &[i64],
+    sheet: &mut [u8],
+    out: &mut [u64],
+) -> u64
+    ensures answer { λ r. ⌜ r ≡ writeSheet (lists kind (now (legs .entry)) (now (waypoints .entry)) (now (slopes .entry))) (length (now (sheet .entry))) .number ⌝ }
+    ensures sheet { λ r. ⌜ now (sheet .exit) ≡ writtenInto (lists kind (now (legs .entry)) (now (waypoints .entry)) (now (slopes .entry))) (now (sheet .entry)) ⌝ }
+    ensures out { λ r. ⌜ now (out .exit) ≡ writtenUnsigned (writeSheet (lists kind (now (legs .entry)) (now (waypoints .entry)) (now (slopes .entry))) (length (now (sheet .entry)))) (now (out .entry)) ⌝ }
+{
+    tell_written(writer::write(kind, legs, waypoints, slopes, sheet), out)
 }
