@@ -1,21 +1,20 @@
-/* Flies a course with the station's library, for C and C++: worked course A (T5), or the sheet in a file, `fly FILE`.
- * Where the library is installed (tools/install PREFIX):
+/* Flies a course with the station's library, for C and C++: worked course A (T5), written from its lists, or the sheet in a file,
+ * `fly FILE`. Where the library is installed (tools/install PREFIX):
  *     cc fly.c $(pkg-config --cflags --libs station) -o fly
  * harness/newcomers compiles and runs it and compares what it prints with fly.expected; rust/station/examples/fly.rs prints the same. */
 #include <inttypes.h>
 #include <stdio.h>
-#include <string.h>
 
 #include <station.h>
 
-/* Course A: 48 bytes, version 1, free ends, 3 waypoints; two legs of 2 ticks; then north, east, up of each waypoint (group S). */
-static const uint8_t course_a[] = {
-    0, 0, 0, 48, 1, 0, 0, 3,             /* header */
-    0, 2, 0, 2,                          /* legs */
-    0, 0, 0, 0, 0, 0, 0, 10, 0, 0, 0, 20, /* 0 10 20 */
-    0, 0, 0, 8, 0, 0, 0, 10, 0, 0, 0, 22, /* 8 10 22 */
-    0, 0, 0, 0, 0, 0, 0, 10, 0, 0, 0, 24, /* 0 10 24 */
+/* Course A: free ends, two legs of 2 ticks, north, east and up of three waypoints, no slopes (G1). */
+static const uint64_t legs[] = {2, 2};
+static const int64_t waypoints[] = {
+    0, 10, 20, /* the first waypoint */
+    8, 10, 22, /* the second */
+    0, 10, 24, /* the third */
 };
+static const struct station_lists course_a = {STATION_FREE, legs, 2, waypoints, 9, NULL, 0};
 
 /* The sheet, with room for one byte more than the longest, so that a longer file is refused; and its bend numbers. */
 static uint8_t sheet[STATION_LONGEST_SHEET + 1];
@@ -99,12 +98,14 @@ int main(int argc, char **argv)
         fprintf(stderr, "usage: fly [FILE]\n");
         return 2;
     }
-    memcpy(sheet, course_a, sizeof course_a);
-    sheet_length = sizeof course_a;
-    if (argc == 2 && !load(argv[1]))
+    uint64_t answer = STATION_DONE;
+    if (argc < 2)
+        answer = station_write_lists(&course_a, sheet, sizeof sheet, &sheet_length);
+    else if (!load(argv[1]))
         return 1;
 
-    uint64_t answer = station_read_into(sheet, sheet_length, &course);
+    if (answer == STATION_DONE)
+        answer = station_read_into(sheet, sheet_length, &course);
     if (answer == STATION_DONE) {
         printf("%s: %" PRIu64 " waypoints, %" PRIu64 " ticks\n", kinds[course.kind], course.waypoints, course.ticks);
         answer = station_lay_out(sheet, sheet_length, list, STATION_LONGEST_LIST);

@@ -10,7 +10,8 @@
  *
  * A slice is a pointer, followed by how many elements there are. Any bytes and numbers may stand in it (D1). The caller owes that
  *   - its pointer is never null, even for no elements, is aligned as its type wants, and reaches over all the elements;
- *   - what a call writes (out; list when laying out; the runner of a step) shares no memory with another slice of that call;
+ *   - what a call writes (out; list when laying out; the runner of a step; the sheet when writing) shares no memory with another slice of
+ *     that call;
  *   - no other thread writes a slice during the call.
  * Results fill out from its start, and nothing after them is touched. An out that is too short stays as it was although the answer is the
  * same: the functions over structs, further down, cannot be called with a short out.
@@ -19,8 +20,8 @@
  * [measured]
  *   format:           elf64-x86-64, for Linux (System V calls)
  *   outside symbols:  memset
- *   code:             4063 bytes with constants, data 0, zeroed data 0
- *   deepest stack:    256 bytes (read 136, lay_out 256, place_at_tick 248, place_of_runner 248, runner_at_tick 152, step 152)
+ *   code:             5002 bytes with constants, data 0, zeroed data 0
+ *   deepest stack:    256 bytes (read 136, lay_out 256, place_at_tick 248, place_of_runner 248, runner_at_tick 152, step 152, write 56)
  * [/measured]
  */
 #ifndef STATION_H
@@ -32,9 +33,9 @@
 /* The version of this header and its library. MAJOR moves where a correct caller may have to change, MINOR where functions or numbers are
  * added. */
 #define STATION_VERSION_MAJOR 1
-#define STATION_VERSION_MINOR 0
+#define STATION_VERSION_MINOR 1
 #define STATION_VERSION_PATCH 0
-#define STATION_VERSION "1.0.0"
+#define STATION_VERSION "1.1.0"
 
 /* Asks gcc and clang to warn where an answer is dropped or a null pointer is handed over; nothing to other compilers. */
 #if defined(__GNUC__)
@@ -54,7 +55,7 @@ enum {
     STATION_EDITION = 2,  /* N2: a version other than 1 */
     STATION_ENDS = 3,     /* N3: no such kind of ends */
     STATION_POINTS = 4,   /* N4: over 512 waypoints, or fewer than 2, closed: fewer than 3 */
-    STATION_SIZE = 5,     /* N5: too many or too few bytes for that kind and N (8 + 2L + 12N; held: 24 more) */
+    STATION_SIZE = 5,     /* N5: too many or too few bytes for that kind and N (8 + 2L + 12N; held: 24 more), or elements (G3) */
     STATION_LEG = 6,      /* N6: a leg of 0 or over 256 ticks */
     STATION_REACH = 7,    /* N7: a waypoint over 1,000,000 mm from home on some axis */
     STATION_SLOPE = 8,    /* N8: a slope over 5,000 mm per tick in size */
@@ -62,7 +63,8 @@ enum {
     STATION_PAST = 10,    /* N10: the tick is over P, on an open course */
     STATION_ADRIFT = 11,  /* N11: no such leg, or the offset is beyond it */
     STATION_BEND = 12,    /* N12: at an end of the leg, a bend number over 2^37 in size */
-    STATION_LANDED = 13   /* N13: the runner has come to the end of an open course */
+    STATION_LANDED = 13,  /* N13: the runner has come to the end of an open course */
+    STATION_PAGE = 14     /* N14: the slice is shorter than the sheet to be written into it */
 };
 
 /* The kinds of ends (S4). */
@@ -92,7 +94,15 @@ STATION_CHECKED uint64_t station_runner_at_tick(const uint8_t *sheet, size_t she
 /* Moves a runner (leg, offset) on by a tick where it lies (M2). Tests 1-8, 11, 13 (A7). Fewer than two numbers are no runner: 11. */
 STATION_CHECKED uint64_t station_step(const uint8_t *sheet, size_t sheet_length, uint64_t *runner, size_t runner_length);
 
-/* The same calls with structs for what they answer. */
+/* Writes a sheet at the front of the slice `sheet`, whose bytes behind it stay, from lists in the sheet's order (G1): the legs; north, east
+ * and up of each waypoint in turn; the slopes, six on a held course and none on others. N is a third of the count of waypoint numbers,
+ * rounded down (G2). Numbers of any size are tested as they are (G4). Tests 3-8, then 14 (A11); 5 where a list's count does not fit kind
+ * and N. Results: the sheet's length; where out has no place for it, the sheet is written all the same. */
+STATION_CHECKED uint64_t station_write(uint64_t kind, const uint64_t *legs, size_t legs_length, const int64_t *waypoints,
+                                       size_t waypoints_length, const int64_t *slopes, size_t slopes_length, uint8_t *sheet,
+                                       size_t sheet_length, uint64_t *out, size_t out_length);
+
+/* The same calls with structs for what they answer, and for the lists of a sheet. */
 
 struct station_course {
     uint64_t kind;      /* STATION_FREE, STATION_HELD or STATION_CLOSED */
@@ -106,6 +116,17 @@ struct station_place {
 
 struct station_runner {
     uint64_t leg, offset;
+};
+
+/* What a sheet is written from (G1). A list of no elements may have a null pointer here. */
+struct station_lists {
+    uint64_t kind; /* STATION_FREE, STATION_HELD or STATION_CLOSED */
+    const uint64_t *legs;
+    size_t legs_length;
+    const int64_t *waypoints; /* north, east, up of each waypoint in turn */
+    size_t waypoints_length;  /* three times N */
+    const int64_t *slopes;    /* held: north, east, up at the start, then at the end */
+    size_t slopes_length;     /* held: 6, else 0 */
 };
 
 /* station_read, into a struct. */
@@ -175,6 +196,24 @@ STATION_CHECKED static inline uint64_t station_step_runner(const uint8_t *sheet,
     return answer;
 }
 
+/* station_write, from a struct. The sheet's length goes into *length where it is not refused. */
+STATION_CHECKED static inline uint64_t station_write_lists(const struct station_lists *lists, uint8_t *sheet, size_t sheet_length,
+                                                           size_t *length)
+{
+    /* stand in for lists of no elements, which may be null */
+    const uint64_t no_leg = 0;
+    const int64_t no_number = 0;
+    const uint64_t *legs = lists->legs_length == 0 ? &no_leg : lists->legs;
+    const int64_t *waypoints = lists->waypoints_length == 0 ? &no_number : lists->waypoints;
+    const int64_t *slopes = lists->slopes_length == 0 ? &no_number : lists->slopes;
+    uint64_t out[1] = {0};
+    uint64_t answer = station_write(lists->kind, legs, lists->legs_length, waypoints, lists->waypoints_length, slopes,
+                                    lists->slopes_length, sheet, sheet_length, out, 1);
+    if (answer == STATION_DONE)
+        *length = (size_t)out[0];
+    return answer;
+}
+
 /* The word of an answer (group N), "done" for STATION_DONE, "unknown" for a number that this header does not name. */
 static inline const char *station_word(uint64_t answer)
 {
@@ -207,6 +246,8 @@ static inline const char *station_word(uint64_t answer)
         return "bend";
     case STATION_LANDED:
         return "landed";
+    case STATION_PAGE:
+        return "page";
     default:
         return "unknown";
     }

@@ -10,19 +10,23 @@
 #include <string.h>
 #include <ucontext.h>
 
-enum { STACK = 1 << 18, CALLS = 6, ADDRESS = 8 };
+enum { STACK = 1 << 18, CALLS = 7, ADDRESS = 8 };
 
-/* What is lent to a call. */
+/* What is lent to a call: a sheet, the lists it is made from, room for one more. */
 static uint8_t sheet[STATION_LONGEST_SHEET + 1];
 static size_t sheet_length;
+static uint64_t legs[512];
+static int64_t waypoints[3 * 512], slopes[6];
+static struct station_lists lists = {0, legs, 0, waypoints, 0, slopes, 0};
+static uint8_t page[STATION_LONGEST_SHEET];
 static int64_t list[STATION_LONGEST_LIST];
 static uint64_t tick, words[3];
 static int64_t place[3];
 
-static const char *const names[CALLS] = {"read", "lay_out", "place_at_tick", "place_of_runner", "runner_at_tick", "step"};
+static const char *const names[CALLS] = {"read", "lay_out", "place_at_tick", "place_of_runner", "runner_at_tick", "step", "write"};
 static uint64_t deepest[CALLS];
 
-/* The six calls, or functions of the same types that do nothing. */
+/* The seven calls, or functions of the same types that do nothing. */
 struct calls {
     uint64_t (*read)(const uint8_t *, size_t, uint64_t *, size_t);
     uint64_t (*lay_out)(const uint8_t *, size_t, int64_t *, size_t);
@@ -30,10 +34,12 @@ struct calls {
     uint64_t (*place_of_runner)(const uint8_t *, size_t, const int64_t *, size_t, uint64_t, uint64_t, int64_t *, size_t);
     uint64_t (*runner_at_tick)(const uint8_t *, size_t, uint64_t, uint64_t *, size_t);
     uint64_t (*step)(const uint8_t *, size_t, uint64_t *, size_t);
+    uint64_t (*write)(uint64_t, const uint64_t *, size_t, const int64_t *, size_t, const int64_t *, size_t, uint8_t *, size_t, uint64_t *,
+                      size_t);
 };
 
 static const struct calls library = {station_read,           station_lay_out, station_place_at_tick, station_place_of_runner,
-                                     station_runner_at_tick, station_step};
+                                     station_runner_at_tick, station_step,    station_write};
 
 static uint64_t no_read(const uint8_t *s, size_t n, uint64_t *out, size_t m)
 {
@@ -60,7 +66,13 @@ static uint64_t no_runner_at_tick(const uint8_t *s, size_t n, uint64_t t, uint64
     return (void)s, (void)n, (void)t, (void)out, (void)m, 0;
 }
 
-static const struct calls nothing = {no_read, no_lay_out, no_place_at_tick, no_place_of_runner, no_runner_at_tick, no_read};
+static uint64_t no_write(uint64_t k, const uint64_t *l, size_t a, const int64_t *w, size_t b, const int64_t *s, size_t c, uint8_t *p,
+                         size_t n, uint64_t *out, size_t m)
+{
+    return (void)k, (void)l, (void)a, (void)w, (void)b, (void)s, (void)c, (void)p, (void)n, (void)out, (void)m, 0;
+}
+
+static const struct calls nothing = {no_read, no_lay_out, no_place_at_tick, no_place_of_runner, no_runner_at_tick, no_read, no_write};
 
 /* Which call is made, and its answer; volatile, so that the compiler keeps one call site for both sets. */
 static const struct calls *volatile chosen;
@@ -87,8 +99,12 @@ static void make_call(void)
     case 4:
         answer = c->runner_at_tick(sheet, sheet_length, tick, words, 3);
         break;
-    default:
+    case 5:
         answer = c->step(sheet, sheet_length, words, 2);
+        break;
+    default:
+        answer = c->write(lists.kind, lists.legs, lists.legs_length, lists.waypoints, lists.waypoints_length, lists.slopes,
+                          lists.slopes_length, page, sizeof page, words, 1);
     }
 }
 
@@ -112,7 +128,8 @@ static size_t untouched(const struct calls *which, uint8_t paint)
     return left;
 }
 
-/* Makes all six calls on the sheet that is in place, at a tick, and keeps the deepest of each; the answers have to be `wanted`. */
+/* Makes all seven calls on the sheet and lists that are in place, at a tick, and keeps the deepest of each; the answers have to be
+ * `wanted`. */
 static void measure(uint64_t at, uint64_t wanted)
 {
     static const uint8_t paints[] = {0xa5, 0x5a};
@@ -134,45 +151,59 @@ static void measure(uint64_t at, uint64_t wanted)
         }
 }
 
-static void put(size_t *at, int64_t value, int bytes)
+/* Makes the lists of a course whose waypoints swing between the limits; answers P. */
+static uint64_t make_lists(uint64_t kind, size_t n)
 {
-    while (bytes-- > 0)
-        sheet[(*at)++] = (uint8_t)((uint64_t)value >> 8 * bytes);
+    uint64_t ticks = 0;
+    lists.kind = kind;
+    lists.legs_length = kind == STATION_CLOSED ? n : n - 1;
+    lists.waypoints_length = 3 * n;
+    lists.slopes_length = kind == STATION_HELD ? 6 : 0;
+    for (size_t i = 0; i < lists.legs_length; i++) {
+        legs[i] = i % 3 == 0 ? 256 : i % 3;
+        ticks += legs[i];
+    }
+    for (size_t i = 0; i < lists.waypoints_length; i++)
+        waypoints[i] = i % 2 ? 1000000 : -1000000;
+    for (size_t i = 0; i < lists.slopes_length; i++)
+        slopes[i] = i % 2 ? 5000 : -5000;
+    return ticks;
 }
 
-/* Writes a sheet of group S whose waypoints swing between the limits; answers P. */
-static uint64_t make_sheet(int kind, int n)
+static void put(uint64_t value, int bytes)
 {
-    int legs = kind == STATION_CLOSED ? n : n - 1;
-    size_t at = 0;
-    uint64_t ticks = 0;
-    sheet_length = (size_t)(8 + 2 * legs + 12 * n + (kind == STATION_HELD ? 24 : 0));
-    put(&at, (int64_t)sheet_length, 4);
-    put(&at, 1, 1);
-    put(&at, kind, 1);
-    put(&at, n, 2);
-    for (int i = 0; i < legs; i++) {
-        int leg = i % 3 == 0 ? 256 : i % 3;
-        put(&at, leg, 2);
-        ticks += (uint64_t)leg;
-    }
-    for (int i = 0; i < 3 * n; i++)
-        put(&at, i % 2 ? 1000000 : -1000000, 4);
-    for (int i = 0; kind == STATION_HELD && i < 6; i++)
-        put(&at, i % 2 ? 5000 : -5000, 4);
-    return ticks;
+    while (bytes-- > 0)
+        sheet[sheet_length++] = (uint8_t)(value >> 8 * bytes);
+}
+
+/* Puts their sheet of group S in place. */
+static void make_sheet(void)
+{
+    sheet_length = 0;
+    put(8 + 2 * lists.legs_length + 4 * (lists.waypoints_length + lists.slopes_length), 4);
+    put(1, 1);
+    put(lists.kind, 1);
+    put(lists.waypoints_length / 3, 2);
+    for (size_t i = 0; i < lists.legs_length; i++)
+        put(legs[i], 2);
+    for (size_t i = 0; i < lists.waypoints_length; i++)
+        put((uint64_t)waypoints[i], 4);
+    for (size_t i = 0; i < lists.slopes_length; i++)
+        put((uint64_t)slopes[i], 4);
 }
 
 int main(void)
 {
-    for (int kind = STATION_FREE; kind <= STATION_CLOSED; kind++) {
-        uint64_t ticks = make_sheet(kind, 512);
+    for (uint64_t kind = STATION_FREE; kind <= STATION_CLOSED; kind++) {
+        uint64_t ticks = make_lists(kind, 512);
+        make_sheet();
         for (uint64_t at = 0; at <= ticks; at += ticks / 4)
             measure(at, STATION_DONE);
-        make_sheet(kind, 3);
+        make_lists(kind, 3);
+        make_sheet();
         measure(1, STATION_DONE);
-        sheet[9] = 0;
-        sheet[8] = 0;
+        legs[0] = 0;
+        make_sheet();
         measure(1, STATION_LEG);
     }
     for (int i = 0; i < CALLS; i++)

@@ -1,7 +1,7 @@
-//! Flies a course with the station's library: worked course A (T5), or the sheet in a file, `fly FILE`.
+//! Flies a course with the station's library: worked course A (T5), written from its lists, or the sheet in a file, `fly FILE`.
 //! It prints what `examples/fly.c` prints; harness/newcomers compares both with `examples/fly.expected`.
 
-use station::{COURSE_A, Course, EndKind, LONGEST_LIST, LONGEST_SHEET, Refusal, Runner};
+use station::{Course, EndKind, LONGEST_LIST, LONGEST_SHEET, Refusal, Runner};
 use std::error::Error;
 use std::io::Read;
 
@@ -11,6 +11,14 @@ fn tell<T>(what: &str, answer: Result<T, Refusal>) {
         Ok(_) => println!("{what}: done"),
         Err(refusal) => println!("{what}: {refusal}"),
     }
+}
+
+/// Course A: two legs of 2 ticks, north, east and up of three waypoints, free ends and so no slopes (G1).
+fn course_a() -> Result<Vec<u8>, Refusal> {
+    let mut sheet = vec![0; LONGEST_SHEET];
+    let length = station::write(EndKind::Free, &[2, 2], &[0, 10, 20, 8, 10, 22, 0, 10, 24], &[], &mut sheet)?;
+    sheet.truncate(length);
+    Ok(sheet)
 }
 
 /// The file's bytes, or one more than the longest sheet has, which is refused.
@@ -68,7 +76,7 @@ fn fly(sheet: &mut [u8]) -> Result<(), Refusal> {
 fn main() -> Result<(), Box<dyn Error>> {
     let mut sheet = match std::env::args().nth(1) {
         Some(name) => load(&name)?,
-        None => COURSE_A.to_vec(),
+        None => course_a()?,
     };
     if let Err(refusal) = fly(&mut sheet) {
         println!("the sheet: {refusal}");

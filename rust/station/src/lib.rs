@@ -2,8 +2,8 @@
 //! other crates. N6, A4 and the like are clauses of the repository's `docs/REQUIREMENTS.md`.
 //!
 //! A *sheet* is a course as bytes. [`read`] tells what it holds, [`lay_out`] makes the bend numbers that the places need, and then
-//! [`place_at_tick`] tells where the course is at each tick. A [`Runner`] does the same for a drone that moves on tick by tick. Ten ticks
-//! are a second, and lengths are whole millimetres.
+//! [`place_at_tick`] tells where the course is at each tick. A [`Runner`] does the same for a drone that moves on tick by tick. [`write()`]
+//! makes a sheet from lists of numbers. Ten ticks are a second, and lengths are whole millimetres.
 //!
 //! Every function takes any bytes, lists and numbers (D1). What does not fit is answered with a [`Refusal`], and then nothing that was
 //! lent has changed (A9).
@@ -25,7 +25,7 @@
 //!
 //! `build.rs` links `libstation.a` from the folder that the variable `STATION_LIBRARY_DIR` names, or from `target/staticlib` of the
 //! repository that this crate is part of, where `tools/archive` makes it. The archive is for x86-64. Without the default feature `link`
-//! nothing is linked: the program then brings the six functions of [`raw`] itself.
+//! nothing is linked: the program then brings the seven functions of [`raw`] itself.
 
 #![no_std]
 #![deny(missing_docs)]
@@ -37,7 +37,7 @@ mod refusal;
 
 pub use refusal::Refusal;
 
-/// How long an accepted sheet can be, in bytes (S9).
+/// How long an accepted sheet can be, in bytes (S9): the size of an array into which every sheet can be written.
 pub const LONGEST_SHEET: usize = 7198;
 
 /// How long a list of bend numbers a sheet can ask for (N9): the size of an array that serves every course.
@@ -237,6 +237,32 @@ pub fn step(sheet: &[u8], runner: &mut Runner) -> Result<(), Refusal> {
     done(raw::step(sheet, &mut record))?;
     *runner = Runner { leg: record[0], offset: record[1] };
     Ok(())
+}
+
+/// Writes a sheet at the front of the slice `sheet`, whose bytes behind it stay, from lists in the sheet's order (G1): the legs; north,
+/// east and up of each waypoint in turn; the slopes, six on a held course and none on others. Answers the sheet's length. Numbers of any
+/// size are tested as they are (G4). Tests 4-8, then 14 (A11); an [`EndKind`] is never refused.
+///
+/// ```
+/// use station::{COURSE_A, EndKind, Refusal};
+///
+/// let waypoints = [0, 10, 20, 8, 10, 22, 0, 10, 24];
+/// // two bytes more than it needs
+/// let mut sheet = [7; 50];
+/// let length = station::write(EndKind::Free, &[2, 2], &waypoints, &[], &mut sheet)?;
+/// assert_eq!(sheet[..length], COURSE_A);
+/// assert_eq!(sheet[length..], [7, 7]);
+///
+/// let mut short = [7; 47];
+/// assert_eq!(station::write(EndKind::Free, &[2, 2], &waypoints, &[], &mut short), Err(Refusal::Page));
+/// assert_eq!(short, [7; 47]);
+/// # Ok::<(), station::Refusal>(())
+/// ```
+#[inline]
+pub fn write(kind: EndKind, legs: &[u64], waypoints: &[i64], slopes: &[i64], sheet: &mut [u8]) -> Result<usize, Refusal> {
+    let mut out = [0];
+    done(raw::write(kind as u64, legs, waypoints, slopes, sheet, &mut out))?;
+    Ok(out[0] as usize)
 }
 
 /// The answer's number as a result.

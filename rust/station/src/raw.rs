@@ -1,4 +1,4 @@
-//! The C boundary (`include/station.h`): the six functions as the archive has them, and the same over slices, for the rest of the crate.
+//! The C boundary (`include/station.h`): the seven functions as the archive has them, and the same over slices, for the rest of the crate.
 //! All `unsafe` code of the crate is here.
 
 // SAFETY: names and types are those of include/station.h.
@@ -32,6 +32,20 @@ unsafe extern "C" {
     pub fn station_runner_at_tick(sheet: *const u8, sheet_length: usize, tick: u64, out: *mut u64, out_length: usize) -> u64;
     /// Moves `runner`, a leg and an offset, on by a tick.
     pub fn station_step(sheet: *const u8, sheet_length: usize, runner: *mut u64, runner_length: usize) -> u64;
+    /// A sheet from its lists into `sheet`, its length into `out`.
+    pub fn station_write(
+        kind: u64,
+        legs: *const u64,
+        legs_length: usize,
+        waypoints: *const i64,
+        waypoints_length: usize,
+        slopes: *const i64,
+        slopes_length: usize,
+        sheet: *mut u8,
+        sheet_length: usize,
+        out: *mut u64,
+        out_length: usize,
+    ) -> u64;
 }
 
 // What the library asks of its caller, slices and their borrows give: a pointer that is not null (that of an empty slice dangles, which is
@@ -71,4 +85,12 @@ pub(crate) fn runner_at_tick(sheet: &[u8], tick: u64, out: &mut [u64; 2]) -> u64
 pub(crate) fn step(sheet: &[u8], runner: &mut [u64; 2]) -> u64 {
     // SAFETY: pointers and lengths of two borrowed slices, `runner` borrowed mutably.
     unsafe { station_step(sheet.as_ptr(), sheet.len(), runner.as_mut_ptr(), runner.len()) }
+}
+
+#[inline]
+pub(crate) fn write(kind: u64, legs: &[u64], waypoints: &[i64], slopes: &[i64], sheet: &mut [u8], out: &mut [u64; 1]) -> u64 {
+    let (l, w, s) = (legs.as_ptr(), waypoints.as_ptr(), slopes.as_ptr());
+    let (page, length) = (sheet.as_mut_ptr(), sheet.len());
+    // SAFETY: pointers and lengths of five borrowed slices, `sheet` and `out` borrowed mutably.
+    unsafe { station_write(kind, l, legs.len(), w, waypoints.len(), s, slopes.len(), page, length, out.as_mut_ptr(), out.len()) }
 }

@@ -23,7 +23,7 @@ pub enum Refusal {
     Ends,
     /// N4: over 512 waypoints, or fewer than 2, closed: fewer than 3.
     Points,
-    /// N5: too many or too few bytes for that kind and count of waypoints.
+    /// N5: too many or too few bytes for that kind and count of waypoints; when writing, too many or too few elements in a list (G3).
     Size,
     /// N6: a leg of 0 or over 256 ticks.
     Leg,
@@ -41,6 +41,8 @@ pub enum Refusal {
     Bend,
     /// N13: the runner has come to the end of an open course.
     Landed,
+    /// N14: the slice is shorter than the sheet to be written into it.
+    Page,
     /// A number that this crate does not know, from a library newer than it. The library of this version has no such answer.
     Unknown(u64),
 }
@@ -72,6 +74,7 @@ impl Refusal {
             11 => Refusal::Adrift,
             12 => Refusal::Bend,
             13 => Refusal::Landed,
+            14 => Refusal::Page,
             _ => Refusal::Unknown(number),
         })
     }
@@ -102,6 +105,7 @@ impl Refusal {
             Refusal::Adrift => (11, "adrift"),
             Refusal::Bend => (12, "bend"),
             Refusal::Landed => (13, "landed"),
+            Refusal::Page => (14, "page"),
             Refusal::Unknown(number) => (number, "unknown"),
         }
     }
