@@ -1,6 +1,6 @@
 /* The calls in plain C, as one writes them from docs/REQUIREMENTS.md: the baseline of the benchmark (gcc -O2) and the stand-in for the
  * library (then compiled a second time with the names station_*), on which the mutants are tried. Numbers are read from the sheet's
- * bytes where they are needed; laying out ends early after a pass that changed nothing. */
+ * bytes where they are needed and written as single bytes; laying out ends early after a pass that changed nothing. */
 #ifndef NAME
 #define NAME(call) base_##call
 #endif
@@ -182,4 +182,41 @@ static uint64_t place(const struct course *c, const int64_t *list, uint64_t leg,
         out[axis] = rounded(numerator, 65536 * h);
     }
     return STATION_DONE;
+}
+
+static int some_leg_bad(const uint64_t *legs, size_t count)
+{
+    for (size_t i = 0; i < count; i++)
+        if (legs[i] < 1 || legs[i] > 256)
+            return 1;
+    return 0;
+}
+
+static int some_number_over(const int64_t *numbers, size_t count, int64_t limit)
+{
+    for (size_t i = 0; i < count; i++)
+        if (numbers[i] < -limit || numbers[i] > limit)
+            return 1;
+    return 0;
+}
+
+static uint8_t *put_legs(uint8_t *p, const uint64_t *legs, size_t count)
+{
+    for (size_t i = 0; i < count; i++) {
+        *p++ = (uint8_t)(legs[i] >> 8);
+        *p++ = (uint8_t)legs[i];
+    }
+    return p;
+}
+
+static uint8_t *put_numbers(uint8_t *p, const int64_t *numbers, size_t count)
+{
+    for (size_t i = 0; i < count; i++) {
+        uint32_t number = (uint32_t)numbers[i];
+        *p++ = (uint8_t)(number >> 24);
+        *p++ = (uint8_t)(number >> 16);
+        *p++ = (uint8_t)(number >> 8);
+        *p++ = (uint8_t)number;
+    }
+    return p;
 }

@@ -1,6 +1,6 @@
-/* The six calls of include/station.h over five parts, which base.c and careful.c write each in its own way. The file that includes this
+/* The seven calls of include/station.h over nine parts, which base.c and careful.c write each in its own way. The file that includes this
  * one says by NAME what its calls are called. ROOM and NO_RUNNER are the answers where a lent slice is too short, from src/room.rs;
- * nothing is written then. */
+ * nothing is written into it then. */
 #include "station.h"
 
 struct course {
@@ -18,6 +18,14 @@ static uint64_t find_tick(const struct course *c, uint64_t tick, uint64_t *leg, 
 static uint64_t leg_length(const struct course *c, uint64_t leg);
 /* Test 12, the room, then the place at a leg and an offset that fit. */
 static uint64_t place(const struct course *c, const int64_t *list, uint64_t leg, uint64_t offset, int64_t *out, size_t out_length);
+/* Test 6 over a list of legs: whether it applies. */
+static int some_leg_bad(const uint64_t *legs, size_t count);
+/* Tests 7 and 8: whether some number of a list is over the limit in size. */
+static int some_number_over(const int64_t *numbers, size_t count, int64_t limit);
+/* Two bytes for each leg (S6); then where they end. */
+static uint8_t *put_legs(uint8_t *p, const uint64_t *legs, size_t count);
+/* Four bytes for each number (S7, S8); then where they end. */
+static uint8_t *put_numbers(uint8_t *p, const int64_t *numbers, size_t count);
 
 /* Test 11. */
 static int is_adrift(const struct course *c, uint64_t leg, uint64_t offset)
@@ -123,5 +131,49 @@ uint64_t NAME(step)(const uint8_t *sheet, size_t sheet_length, uint64_t *runner,
         runner[0] = last ? 0 : runner[0] + 1;
         runner[1] = 0;
     }
+    return STATION_DONE;
+}
+
+/* S2 to S5: the length, the version, the kind, N. */
+static uint8_t *put_head(uint8_t *p, size_t length, uint64_t kind, size_t n)
+{
+    p[0] = (uint8_t)(length >> 24);
+    p[1] = (uint8_t)(length >> 16);
+    p[2] = (uint8_t)(length >> 8);
+    p[3] = (uint8_t)length;
+    p[4] = 1;
+    p[5] = (uint8_t)kind;
+    p[6] = (uint8_t)(n >> 8);
+    p[7] = (uint8_t)n;
+    return p + 8;
+}
+
+uint64_t NAME(write)(uint64_t kind, const uint64_t *legs, size_t legs_length, const int64_t *waypoints, size_t waypoints_length,
+                     const int64_t *slopes, size_t slopes_length, uint8_t *sheet, size_t sheet_length, uint64_t *out, size_t out_length)
+{
+    size_t n = waypoints_length / 3;
+    int closed = kind == STATION_CLOSED, held = kind == STATION_HELD;
+    if (kind > STATION_CLOSED)
+        return STATION_ENDS;
+    if (n < (closed ? 3 : 2) || n > 512)
+        return STATION_POINTS;
+    if (waypoints_length != 3 * n || legs_length != (closed ? n : n - 1) || slopes_length != (held ? 6 : 0))
+        return STATION_SIZE;
+    if (some_leg_bad(legs, legs_length))
+        return STATION_LEG;
+    if (some_number_over(waypoints, waypoints_length, 1000000))
+        return STATION_REACH;
+    if (some_number_over(slopes, slopes_length, 5000))
+        return STATION_SLOPE;
+    size_t length = 8 + 2 * legs_length + 12 * n + 4 * slopes_length;
+    if (sheet_length < length)
+        return STATION_PAGE;
+    uint8_t *p = put_head(sheet, length, kind, n);
+    p = put_legs(p, legs, legs_length);
+    p = put_numbers(p, waypoints, waypoints_length);
+    put_numbers(p, slopes, slopes_length);
+    if (out_length < 1)
+        return ROOM;
+    out[0] = length;
     return STATION_DONE;
 }

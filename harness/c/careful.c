@@ -1,9 +1,11 @@
-/* The calls in C written with care for speed, the algorithm unchanged: byte loads that merge into one, ranges asked by one unsigned
- * comparison and gathered without a branch, a row's factors worked out once for the three axes, the number just set carried along as
- * the next row's left neighbour, rounding without a branch. An axis at a time, each row with its one division; laying out ends
- * early after a pass that changed nothing. Compiled with gcc -O3. */
+/* The calls in C written with care for speed, the algorithm unchanged: byte loads that merge into one, stores of a whole number with its
+ * bytes swapped, ranges asked by one unsigned comparison or by a few bits of many numbers and gathered without a branch, a row's factors
+ * worked out once for the three axes, the number just set carried along as the next row's left neighbour, rounding without a branch. An
+ * axis at a time, each row with its one division; laying out ends early after a pass that changed nothing. Compiled with gcc -O3. */
 #define NAME(call) careful_##call
 #include "calls.h"
+
+#include <string.h>
 
 static inline uint32_t be16(const uint8_t *p)
 {
@@ -189,4 +191,39 @@ static uint64_t place(const struct course *c, const int64_t *list, uint64_t leg,
         out[axis] = rounded(65536 * (u * w + rest * v) - slack * ((h + rest) * z + (h + u) * y), 65536 * h);
     }
     return STATION_DONE;
+}
+
+static int some_leg_bad(const uint64_t *legs, size_t count)
+{
+    uint64_t bits = 0;
+    for (size_t i = 0; i < count; i++)
+        bits |= legs[i] - 1;
+    return bits > 255;
+}
+
+static int some_number_over(const int64_t *numbers, size_t count, int64_t limit)
+{
+    /* over the limit, one of the two has the sign's bit */
+    uint64_t signs = 0, most = (uint64_t)limit;
+    for (size_t i = 0; i < count; i++)
+        signs |= (most + (uint64_t)numbers[i]) | (most - (uint64_t)numbers[i]);
+    return signs >> 63;
+}
+
+static uint8_t *put_legs(uint8_t *restrict p, const uint64_t *restrict legs, size_t count)
+{
+    for (size_t i = 0; i < count; i++) {
+        uint16_t swapped = __builtin_bswap16((uint16_t)legs[i]);
+        memcpy(p + 2 * i, &swapped, 2);
+    }
+    return p + 2 * count;
+}
+
+static uint8_t *put_numbers(uint8_t *restrict p, const int64_t *restrict numbers, size_t count)
+{
+    for (size_t i = 0; i < count; i++) {
+        uint32_t swapped = __builtin_bswap32((uint32_t)numbers[i]);
+        memcpy(p + 4 * i, &swapped, 4);
+    }
+    return p + 4 * count;
 }

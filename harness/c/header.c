@@ -12,7 +12,7 @@ struct entry {
 static const struct entry entries[] = {
     ENTRY(DONE), ENTRY(TORN), ENTRY(EDITION), ENTRY(ENDS), ENTRY(POINTS), ENTRY(SIZE), ENTRY(LEG),
     ENTRY(REACH), ENTRY(SLOPE), ENTRY(SHELF), ENTRY(PAST), ENTRY(ADRIFT), ENTRY(BEND), ENTRY(LANDED),
-    ENTRY(FREE), ENTRY(HELD), ENTRY(CLOSED), ENTRY(LONGEST_SHEET), ENTRY(LONGEST_LIST),
+    ENTRY(PAGE), ENTRY(FREE), ENTRY(HELD), ENTRY(CLOSED), ENTRY(LONGEST_SHEET), ENTRY(LONGEST_LIST),
 };
 
 /* The i-th enumerator, or 0 past the last. */
@@ -27,7 +27,7 @@ const char *header_word(uint64_t number)
     return station_word(number);
 }
 
-/* The six calls by the header's functions over structs, in the form of the calls themselves, so that evidence can compare them alike. The
+/* The seven calls by the header's functions over structs, in the form of the calls themselves, so that evidence can compare them alike. The
  * structs hold before a call what out holds. Where out is too short for a struct, and for laying out, there is only the call itself. */
 
 uint64_t structs_read(const uint8_t *sheet, size_t n, uint64_t *out, size_t m)
@@ -95,5 +95,18 @@ uint64_t structs_step(const uint8_t *sheet, size_t n, uint64_t *runner, size_t m
     uint64_t answer = station_step_runner(sheet, n, &record);
     runner[0] = record.leg;
     runner[1] = record.offset;
+    return answer;
+}
+
+/* A list of no elements is null in the struct; gcc traps where the header hands that on to the call (build.rs). */
+uint64_t structs_write(uint64_t kind, const uint64_t *legs, size_t l, const int64_t *waypoints, size_t w, const int64_t *slopes, size_t s,
+                       uint8_t *sheet, size_t n, uint64_t *out, size_t m)
+{
+    if (m < 1)
+        return station_write(kind, legs, l, waypoints, w, slopes, s, sheet, n, out, m);
+    struct station_lists lists = {kind, l ? legs : 0, l, w ? waypoints : 0, w, s ? slopes : 0, s};
+    size_t length = out[0];
+    uint64_t answer = station_write_lists(&lists, sheet, n, &length);
+    out[0] = length;
     return answer;
 }

@@ -1,9 +1,12 @@
 //! The C boundary: what include/station.h promises, said by the model, and the calls of the library and of the C files by name.
 
-use crate::model;
+use crate::model::{self, Lists};
 use crate::room::{NO_RUNNER, ROOM};
 
-/// One implementation of the six calls.
+/// `station_write`: the kind, three lists, the page, the out.
+type Write = unsafe extern "C" fn(u64, *const u64, usize, *const i64, usize, *const i64, usize, *mut u8, usize, *mut u64, usize) -> u64;
+
+/// One implementation of the seven calls.
 pub struct Calls {
     pub name: &'static str,
     pub read: unsafe extern "C" fn(*const u8, usize, *mut u64, usize) -> u64,
@@ -12,10 +15,26 @@ pub struct Calls {
     pub place_of_runner: unsafe extern "C" fn(*const u8, usize, *const i64, usize, u64, u64, *mut i64, usize) -> u64,
     pub runner_at_tick: unsafe extern "C" fn(*const u8, usize, u64, *mut u64, usize) -> u64,
     pub step: unsafe extern "C" fn(*const u8, usize, *mut u64, usize) -> u64,
+    pub write: Write,
+}
+
+impl Calls {
+    /// The call `write` over slices.
+    pub fn write_slices(&self, kind: u64, legs: &[u64], waypoints: &[i64], slopes: &[i64], page: &mut [u8], out: &mut [u64]) -> u64 {
+        let ((legs, l), (waypoints, w), (slopes, s)) = (parts(legs), parts(waypoints), parts(slopes));
+        let ((page, n), (out, m)) = ((page.as_mut_ptr(), page.len()), (out.as_mut_ptr(), out.len()));
+        // SAFETY: pointers and lengths of live slices that do not overlap.
+        unsafe { (self.write)(kind, legs, l, waypoints, w, slopes, s, page, n, out, m) }
+    }
+}
+
+/// A slice as C takes it.
+fn parts<T>(slice: &[T]) -> (*const T, usize) {
+    (slice.as_ptr(), slice.len())
 }
 
 macro_rules! c_calls {
-    ($($read:ident $lay_out:ident $place_at_tick:ident $place_of_runner:ident $runner_at_tick:ident $step:ident;)*) => {
+    ($($read:ident $lay_out:ident $place_at_tick:ident $place_of_runner:ident $runner_at_tick:ident $step:ident $write:ident;)*) => {
         extern "C" { $(
             fn $read(sheet: *const u8, n: usize, out: *mut u64, m: usize) -> u64;
             fn $lay_out(sheet: *const u8, n: usize, list: *mut i64, m: usize) -> u64;
@@ -25,15 +44,19 @@ macro_rules! c_calls {
             ) -> u64;
             fn $runner_at_tick(sheet: *const u8, n: usize, tick: u64, out: *mut u64, m: usize) -> u64;
             fn $step(sheet: *const u8, n: usize, runner: *mut u64, m: usize) -> u64;
+            fn $write(
+                kind: u64, legs: *const u64, l: usize, waypoints: *const i64, w: usize, slopes: *const i64, s: usize,
+                sheet: *mut u8, n: usize, out: *mut u64, m: usize,
+            ) -> u64;
         )* }
     };
 }
 
 c_calls! {
-    station_read station_lay_out station_place_at_tick station_place_of_runner station_runner_at_tick station_step;
-    base_read base_lay_out base_place_at_tick base_place_of_runner base_runner_at_tick base_step;
-    careful_read careful_lay_out careful_place_at_tick careful_place_of_runner careful_runner_at_tick careful_step;
-    structs_read structs_lay_out structs_place_at_tick structs_place_of_runner structs_runner_at_tick structs_step;
+    station_read station_lay_out station_place_at_tick station_place_of_runner station_runner_at_tick station_step station_write;
+    base_read base_lay_out base_place_at_tick base_place_of_runner base_runner_at_tick base_step base_write;
+    careful_read careful_lay_out careful_place_at_tick careful_place_of_runner careful_runner_at_tick careful_step careful_write;
+    structs_read structs_lay_out structs_place_at_tick structs_place_of_runner structs_runner_at_tick structs_step structs_write;
 }
 
 /// The station's library.
@@ -45,6 +68,7 @@ pub const LIBRARY: Calls = Calls {
     place_of_runner: station_place_of_runner,
     runner_at_tick: station_runner_at_tick,
     step: station_step,
+    write: station_write,
 };
 
 /// c/base.c.
@@ -56,6 +80,7 @@ pub const BASE: Calls = Calls {
     place_of_runner: base_place_of_runner,
     runner_at_tick: base_runner_at_tick,
     step: base_step,
+    write: base_write,
 };
 
 /// c/careful.c.
@@ -67,6 +92,7 @@ pub const CAREFUL: Calls = Calls {
     place_of_runner: careful_place_of_runner,
     runner_at_tick: careful_runner_at_tick,
     step: careful_step,
+    write: careful_write,
 };
 
 /// The library by the header's functions over structs (c/header.c).
@@ -78,9 +104,10 @@ pub const STRUCTS: Calls = Calls {
     place_of_runner: structs_place_of_runner,
     runner_at_tick: structs_runner_at_tick,
     step: structs_step,
+    write: structs_write,
 };
 
-/// Any of the six calls with all that is lent to it.
+/// Any of the seven calls with its numbers, and a writing's lists.
 #[derive(Clone, Debug)]
 pub enum Call {
     Read,
@@ -89,19 +116,44 @@ pub enum Call {
     PlaceOfRunner { leg: u64, offset: u64 },
     RunnerAtTick { tick: u64 },
     Step,
+    Write(Lists),
+}
+
+/// What else is lent to a call, as it was before it or as it is after it.
+#[derive(Clone, Default, PartialEq, Eq, Debug)]
+pub struct Lent {
+    pub list: Vec<i64>,
+    /// The out of numbers without sign, or the runner.
+    pub words: Vec<u64>,
+    pub place: Vec<i64>,
+    /// What a sheet is written into.
+    pub page: Vec<u8>,
+}
+
+/// The memory that a call is made on: the sheet, a writing's lists, and what is lent.
+pub struct Memory<'a> {
+    pub sheet: &'a [u8],
+    pub legs: &'a [u64],
+    pub waypoints: &'a [i64],
+    pub slopes: &'a [i64],
+    pub list: &'a mut [i64],
+    pub words: &'a mut [u64],
+    pub place: &'a mut [i64],
+    pub page: &'a mut [u8],
 }
 
 /// The names of the calls, by [`Call::index`].
-pub const NAMES: [&str; 6] = ["read", "lay_out", "place_at_tick", "place_of_runner", "runner_at_tick", "step"];
+pub const NAMES: [&str; 7] = ["read", "lay_out", "place_at_tick", "place_of_runner", "runner_at_tick", "step", "write"];
 
-/// A2 to A7: the numbers that each call tests, by [`Call::index`]; and the answers where what is lent is too short.
-pub const TESTS: [&[u64]; 6] = [
+/// A2 to A7, A11: the numbers that each call tests, by [`Call::index`]; and the answers where what is lent is too short.
+pub const TESTS: [&[u64]; 7] = [
     &[1, 2, 3, 4, 5, 6, 7, 8, ROOM],
     &[1, 2, 3, 4, 5, 6, 7, 8, 9],
     &[1, 2, 3, 4, 5, 6, 7, 8, 9, 10, 12, ROOM],
     &[1, 2, 3, 4, 5, 6, 7, 8, 9, 11, 12, ROOM],
     &[1, 2, 3, 4, 5, 6, 7, 8, 10, ROOM],
     &[1, 2, 3, 4, 5, 6, 7, 8, 11, 13, NO_RUNNER],
+    &[3, 4, 5, 6, 7, 8, 14, ROOM],
 ];
 
 impl Call {
@@ -113,22 +165,24 @@ impl Call {
             Call::PlaceOfRunner { .. } => 3,
             Call::RunnerAtTick { .. } => 4,
             Call::Step => 5,
+            Call::Write(_) => 6,
         }
     }
 
     /// Whether the slice lent for the results (or the runner) is too short.
-    pub fn lacks_room(&self, words: &[u64], place: &[i64]) -> bool {
+    pub fn lacks_room(&self, lent: &Lent) -> bool {
         match self {
-            Call::Read => words.len() < 3,
+            Call::Read => lent.words.len() < 3,
             Call::LayOut => false,
-            Call::PlaceAtTick { .. } | Call::PlaceOfRunner { .. } => place.len() < 3,
-            Call::RunnerAtTick { .. } | Call::Step => words.len() < 2,
+            Call::PlaceAtTick { .. } | Call::PlaceOfRunner { .. } => lent.place.len() < 3,
+            Call::RunnerAtTick { .. } | Call::Step => lent.words.len() < 2,
+            Call::Write(_) => lent.words.is_empty(),
         }
     }
 
-    /// What the model says: the answer, and what `list` and `words` (the out of numbers without sign, or the runner) and `place` hold
-    /// after the call. Refused calls change nothing.
-    pub fn by_model(&self, sheet: &[u8], list: &mut [i64], words: &mut [u64], place: &mut [i64]) -> u64 {
+    /// What the model says: the answer, and in `lent` what it leaves there. Refused calls change nothing.
+    pub fn by_model(&self, sheet: &[u8], lent: &mut Lent) -> u64 {
+        let Lent { list, words, place, page } = lent;
         let answer = match *self {
             Call::Read => model::read(sheet).and_then(|course| put(words, &[course.kind as u64, course.n as u64, course.ticks() as u64])),
             Call::LayOut => model::lay_out(sheet, list),
@@ -136,28 +190,31 @@ impl Call {
             Call::PlaceOfRunner { leg, offset } => model::place_of_runner(sheet, list, leg, offset).and_then(|found| put(place, &found)),
             Call::RunnerAtTick { tick } => model::runner_at_tick(sheet, tick).and_then(|(leg, offset)| put(words, &[leg, offset])),
             // a runner of fewer than two numbers is none: only the sheet is tested
-            Call::Step => match *words {
+            Call::Step => match **words {
                 [leg, offset, ..] => model::stepped(sheet, leg, offset).and_then(|(leg, offset)| put(words, &[leg, offset])),
                 _ => model::read(sheet).and(Err(NO_RUNNER)),
             },
+            Call::Write(ref lists) => model::write(lists, page).and_then(|length| put(words, &[length as u64])),
         };
         answer.err().unwrap_or(0)
     }
 
     /// The same by one of the implementations.
-    pub fn by(&self, calls: &Calls, sheet: &[u8], list: &mut [i64], words: &mut [u64], place: &mut [i64]) -> u64 {
-        let (s, n) = (sheet.as_ptr(), sheet.len());
+    pub fn by(&self, calls: &Calls, memory: Memory) -> u64 {
+        let Memory { sheet, legs, waypoints, slopes, list, words, place, page } = memory;
+        let ((s, n), (out, m)) = (parts(sheet), (words.as_mut_ptr(), words.len()));
         // SAFETY: pointers and lengths of live slices that do not overlap.
         unsafe {
             match *self {
-                Call::Read => (calls.read)(s, n, words.as_mut_ptr(), words.len()),
+                Call::Read => (calls.read)(s, n, out, m),
                 Call::LayOut => (calls.lay_out)(s, n, list.as_mut_ptr(), list.len()),
                 Call::PlaceAtTick { tick } => (calls.place_at_tick)(s, n, list.as_ptr(), list.len(), tick, place.as_mut_ptr(), place.len()),
                 Call::PlaceOfRunner { leg, offset } => {
                     (calls.place_of_runner)(s, n, list.as_ptr(), list.len(), leg, offset, place.as_mut_ptr(), place.len())
                 }
-                Call::RunnerAtTick { tick } => (calls.runner_at_tick)(s, n, tick, words.as_mut_ptr(), words.len()),
-                Call::Step => (calls.step)(s, n, words.as_mut_ptr(), words.len()),
+                Call::RunnerAtTick { tick } => (calls.runner_at_tick)(s, n, tick, out, m),
+                Call::Step => (calls.step)(s, n, out, m),
+                Call::Write(Lists { kind, .. }) => calls.write_slices(kind, legs, waypoints, slopes, page, words),
             }
         }
     }

@@ -6,6 +6,7 @@ pub mod elimination;
 pub mod exact;
 pub mod fence;
 pub mod header;
+pub mod lists;
 pub mod model;
 pub mod options;
 pub mod pcuspl;

@@ -3,6 +3,10 @@
 //! Written from the clauses alone, to be right and not to be fast: `i128` everywhere, the sheet decoded into lists, every pass made. It
 //! shares nothing with the Rattle code or with the C files here. A refusal is `Err` with its number of group N.
 
+mod writing;
+
+pub use writing::{write, Lists};
+
 pub const TORN: u64 = 1;
 pub const EDITION: u64 = 2;
 pub const ENDS: u64 = 3;
@@ -16,10 +20,11 @@ pub const PAST: u64 = 10;
 pub const ADRIFT: u64 = 11;
 pub const BEND: u64 = 12;
 pub const LANDED: u64 = 13;
+pub const PAGE: u64 = 14;
 
-/// The words of N1 to N13, by number; 0 has none.
-pub const WORDS: [&str; 14] =
-    ["", "torn", "edition", "ends", "points", "size", "leg", "reach", "slope", "shelf", "past", "adrift", "bend", "landed"];
+/// The words of N1 to N14, by number; 0 has none.
+pub const WORDS: [&str; 15] =
+    ["", "torn", "edition", "ends", "points", "size", "leg", "reach", "slope", "shelf", "past", "adrift", "bend", "landed", "page"];
 
 /// S4.
 #[derive(Clone, Copy, PartialEq, Eq, Debug)]
@@ -51,10 +56,17 @@ impl Kind {
         }
     }
 
+    /// S8: the number of slopes.
+    pub fn slope_count(self) -> usize {
+        match self {
+            Kind::Held => 6,
+            Kind::Free | Kind::Closed => 0,
+        }
+    }
+
     /// S9: the bytes of a sheet with n waypoints.
     pub fn sheet_length(self, n: usize) -> usize {
-        let slopes = if self == Kind::Held { 24 } else { 0 };
-        8 + 2 * self.leg_count(n) + 12 * n + slopes
+        8 + 2 * self.leg_count(n) + 12 * n + 4 * self.slope_count()
     }
 }
 
@@ -113,17 +125,8 @@ pub fn read(sheet: &[u8]) -> Result<Course, u64> {
     if sheet.len() != kind.sheet_length(n) {
         return Err(SIZE);
     }
-    // N6, N7, N8: each over the whole sheet before the next
     let course = decoded(kind, n, &sheet[8..]);
-    if course.legs.iter().any(|leg| *leg < 1 || *leg > 256) {
-        return Err(LEG);
-    }
-    if course.points.iter().flatten().any(|value| *value < -1_000_000 || *value > 1_000_000) {
-        return Err(REACH);
-    }
-    if course.slopes.iter().flatten().any(|slope| *slope < -5_000 || *slope > 5_000) {
-        return Err(SLOPE);
-    }
+    course.within_limits()?;
     Ok(course)
 }
 
@@ -159,6 +162,20 @@ pub fn rounded(n: i128, d: i128) -> i128 {
 }
 
 impl Course {
+    /// N6, N7, N8: each over the whole course before the next.
+    fn within_limits(&self) -> Result<(), u64> {
+        if self.legs.iter().any(|leg| *leg < 1 || *leg > 256) {
+            return Err(LEG);
+        }
+        if self.points.iter().flatten().any(|value| *value < -1_000_000 || *value > 1_000_000) {
+            return Err(REACH);
+        }
+        if self.slopes.iter().flatten().any(|slope| *slope < -5_000 || *slope > 5_000) {
+            return Err(SLOPE);
+        }
+        Ok(())
+    }
+
     /// P.
     pub fn ticks(&self) -> i128 {
         self.legs.iter().sum()

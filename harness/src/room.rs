@@ -1,5 +1,5 @@
 // What the C boundary answers where the slice that is lent for the results is too short and nothing is refused (docs/DECISIONS.md, Answers;
-// include/station.h says the same). Nothing is written then. build.rs hands both numbers to the C files.
+// include/station.h says the same). Nothing is written into it then. build.rs hands both numbers to the C files.
 
 /// The out has fewer places than there are results: the number is the same as with room.
 pub const ROOM: u64 = 0;

@@ -212,7 +212,7 @@ fn move_count(random: &mut Random, draft: &mut Draft) {
 }
 
 /// A place in a list: the first, the last, or any.
-fn place_in(random: &mut Random, length: usize) -> usize {
+pub fn place_in(random: &mut Random, length: usize) -> usize {
     let any = random.below(length);
     random.pick(&[0, length - 1, any, any])
 }

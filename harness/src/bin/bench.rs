@@ -7,7 +7,7 @@
 //! them, and no test rests on them.
 
 use harness::boundary::{Calls, BASE, CAREFUL, LIBRARY};
-use harness::model::{self, Kind};
+use harness::model::{self, Kind, Lists};
 use harness::options::Given;
 use harness::pcuspl::Pcuspl;
 use harness::random::Random;
@@ -113,6 +113,8 @@ struct Form {
     name: String,
     n: usize,
     sheets: Vec<Vec<u8>>,
+    /// What the sheets are written from.
+    sources: Vec<Lists>,
     lists: Vec<Vec<i64>>,
     /// The last tick: P on an open course, P - 1 on a closed one.
     ticks: Vec<u64>,
@@ -126,11 +128,21 @@ impl Form {
     fn new(name: &str, n: usize, make: impl FnMut() -> Draft) -> Form {
         let mut make = make;
         let sheets: Vec<Vec<u8>> = (0..8).map(|_| make().bytes()).collect();
-        let mut form = Form { name: format!("N = {n}, {name}"), n, sheets, lists: vec![], ticks: vec![], runners: vec![], passes: 0.0 };
+        let mut form = Form {
+            name: format!("N = {n}, {name}"),
+            n,
+            sheets,
+            sources: vec![],
+            lists: vec![],
+            ticks: vec![],
+            runners: vec![],
+            passes: 0.0,
+        };
         for sheet in &form.sheets {
             let course = model::read(sheet).expect("an accepted sheet");
             let mut list = vec![0; 3 * n];
             model::lay_out(sheet, &mut list).expect("an accepted sheet");
+            form.sources.push(course.lists());
             form.lists.push(list);
             form.ticks.push(course.ticks() as u64 - u64::from(course.kind == Kind::Closed));
             let (leg, offset) = model::runner_at_tick(sheet, course.ticks() as u64 / 2).expect("a tick of the course");
@@ -154,6 +166,7 @@ enum Call {
     PlaceOfRunner,
     RunnerAtLastTick,
     Step,
+    Write,
 }
 
 impl Call {
@@ -161,6 +174,7 @@ impl Call {
         let sheet = |k: usize| (form.sheets[k].as_ptr(), form.sheets[k].len());
         let list = |k: usize| (form.lists[k].as_ptr(), form.lists[k].len());
         let (mut numbers, mut place, mut room) = ([0_u64; 3], [0_i64; 3], vec![0_i64; 3 * form.n]);
+        let mut page = vec![0_u8; form.sheets[0].len()];
         // SAFETY (all calls): pointers and lengths of live slices that do not overlap.
         match self {
             Call::Read => Box::new(move |k| {
@@ -188,6 +202,10 @@ impl Call {
                 let (s, n) = sheet(k);
                 let mut runner = form.runners[k];
                 black_box(unsafe { (calls.step)(s, n, runner.as_mut_ptr(), 2) });
+            }),
+            Call::Write => Box::new(move |k| {
+                let Lists { kind, legs, waypoints, slopes } = &form.sources[k];
+                black_box(calls.write_slices(*kind, legs, waypoints, slopes, &mut page, &mut numbers[..1]));
             }),
         }
     }
@@ -240,15 +258,16 @@ fn forms(seed: u64) -> ([Form; 2], Form, Vec<[Form; 2]>) {
     (open, three, laid)
 }
 
-/// The six calls on all forms, and how they grow.
+/// The seven calls on all forms, and how they grow.
 fn time_calls(bench: &mut Bench, [small, large]: &[Form; 2], three: &Form, laid: &[[Form; 2]]) {
-    let mut places = vec![];
+    let (mut places, mut writes) = (vec![], vec![]);
     for form in [large, small, three] {
         bench.call("read", form, Call::Read);
         places.push(bench.call("place at the last tick", form, Call::PlaceAtLastTick));
         bench.call("place of a runner", form, Call::PlaceOfRunner);
         bench.call("runner at the last tick", form, Call::RunnerAtLastTick);
         bench.call("step", form, Call::Step);
+        writes.push(bench.call("write", form, Call::Write));
     }
     let mut per_pass = vec![];
     for [small, large] in laid {
@@ -260,6 +279,7 @@ fn time_calls(bench: &mut Bench, [small, large]: &[Form; 2], three: &Form, laid:
     bench.call(&format!("lay out ({:.1} passes)", three.passes), three, Call::LayOut);
 
     bench.growth("place at the last tick", places[0], places[1]);
+    bench.growth("write", writes[0], writes[1]);
     // (not on the worst sheets: of both sizes 60 waypoints are the chain)
     for (i, [small, _]) in laid.iter().enumerate().take(2) {
         let name = small.name.trim_start_matches("N = 64, ");

@@ -3,9 +3,9 @@
 use crate::hit::{self, Doing};
 use crate::parts::{Part, Tally};
 use crate::wrapper::{self, Refusal};
-use harness::boundary::{Call, Calls, BASE, CAREFUL, LIBRARY, STRUCTS};
+use harness::boundary::{Call, Calls, Lent, Memory, BASE, CAREFUL, LIBRARY, NAMES, STRUCTS};
 use harness::fence::{Fenced, Stand};
-use harness::model::{self, Course, WORDS};
+use harness::model::{self, Course, Lists, WORDS};
 use harness::room::ROOM;
 
 pub struct Comparison {
@@ -19,25 +19,24 @@ pub struct Comparison {
     /// Those of them that would have been done but lacked room for the results.
     pub without_room: u64,
     /// How often each call gave each answer, by [`Call::index`].
-    pub answers: [[u64; 16]; 6],
+    pub answers: [[u64; 16]; NAMES.len()],
     pub stand: Stand,
     /// The library, and with it its functions over structs and the C files or not.
     pub implementations: &'static [Calls],
     sheet: Fenced<u8>,
+    legs: Fenced<u64>,
+    waypoints: Fenced<i64>,
+    slopes: Fenced<i64>,
     list: Fenced<i64>,
     words: Fenced<u64>,
     place: Fenced<i64>,
+    page: Fenced<u8>,
 }
 
 pub const ALL: [Calls; 4] = [LIBRARY, STRUCTS, BASE, CAREFUL];
 
-/// Everything that a call is lent, as it was before it or as it is after it.
-#[derive(Clone, PartialEq, Eq, Debug)]
-pub struct Lent {
-    pub list: Vec<i64>,
-    pub words: Vec<u64>,
-    pub place: Vec<i64>,
-}
+/// The lists of a call that is not a writing.
+static NO_LISTS: Lists = Lists { kind: 0, legs: vec![], waypoints: vec![], slopes: vec![] };
 
 impl Comparison {
     pub fn new(seed: u64, stand: Stand) -> Comparison {
@@ -48,13 +47,17 @@ impl Comparison {
             seed,
             calls: 0,
             without_room: 0,
-            answers: [[0; 16]; 6],
+            answers: [[0; 16]; NAMES.len()],
             stand,
             implementations: &ALL,
             sheet: Fenced::new(1 << 20),
+            legs: Fenced::new(1 << 17),
+            waypoints: Fenced::new(1 << 18),
+            slopes: Fenced::new(64),
             list: Fenced::new(4096),
             words: Fenced::new(64),
             place: Fenced::new(64),
+            page: Fenced::new(1 << 14),
         }
     }
 
@@ -72,25 +75,31 @@ impl Comparison {
 
     /// One call by one implementation, in memory with fences.
     pub fn call(&mut self, calls: &Calls, call: &Call, sheet: &[u8], before: &Lent) -> (u64, Lent) {
-        let lent_sheet = self.sheet.lend(sheet, self.stand);
+        let lists = if let Call::Write(lists) = call { lists } else { &NO_LISTS };
+        let lent_sheet: &[u8] = self.sheet.lend(sheet, self.stand);
+        let legs: &[u64] = self.legs.lend(&lists.legs, self.stand);
+        let waypoints: &[i64] = self.waypoints.lend(&lists.waypoints, self.stand);
+        let slopes: &[i64] = self.slopes.lend(&lists.slopes, self.stand);
         let list = self.list.lend(&before.list, self.stand);
         let words = self.words.lend(&before.words, self.stand);
         let place = self.place.lend(&before.place, self.stand);
+        let page = self.page.lend(&before.page, self.stand);
         let doing = Doing { part: self.part.name(), seed: self.seed, case: self.case, implementation: calls.name, call, sheet };
-        let answer = hit::watched(&doing, || call.by(calls, lent_sheet, list, words, place));
-        let after = Lent { list: list.to_vec(), words: words.to_vec(), place: place.to_vec() };
-        let kept = lent_sheet == sheet;
-        self.tally.check(Part::Memory, kept, || format!("{} {call:?} wrote the sheet {}", calls.name, hex(sheet)));
+        let memory = Memory { sheet: lent_sheet, legs, waypoints, slopes, list, words, place, page };
+        let answer = hit::watched(&doing, || call.by(calls, memory));
+        let after = Lent { list: list.to_vec(), words: words.to_vec(), place: place.to_vec(), page: page.to_vec() };
+        let kept = lent_sheet == sheet && legs == lists.legs && waypoints == lists.waypoints && slopes == lists.slopes;
+        self.tally.check(Part::Memory, kept, || format!("{} {call:?} wrote its lists or the sheet {}", calls.name, hex(sheet)));
         (answer, after)
     }
 
     /// Compares one call; the model's answer and what it leaves.
     pub fn compare(&mut self, call: &Call, sheet: &[u8], before: &Lent) -> (u64, Lent) {
         let mut after = before.clone();
-        let answer = call.by_model(sheet, &mut after.list, &mut after.words, &mut after.place);
+        let answer = call.by_model(sheet, &mut after);
         self.answers[call.index()][answer as usize] += 1;
         self.calls += 1;
-        self.without_room += u64::from([0, ROOM].contains(&answer) && call.lacks_room(&before.words, &before.place));
+        self.without_room += u64::from([0, ROOM].contains(&answer) && call.lacks_room(before));
         for (i, calls) in self.implementations.iter().enumerate() {
             let got = self.call(calls, call, sheet, before);
             let part = [self.part, Part::Structs, Part::CFiles, Part::CFiles][i];
@@ -103,16 +112,19 @@ impl Comparison {
         (answer, after)
     }
 
-    /// Compares the Rust wrapper's answer to the same call; it always has room.
+    /// Compares the Rust wrapper's answer to the same call; it always has room. A kind above 2 cannot be said there.
     pub fn compare_wrapper(&mut self, call: &Call, sheet: &[u8], before: &Lent) {
-        let mut model = Lent { list: before.list.clone(), words: before.words.clone(), place: vec![0; 3] };
+        if let Call::Write(Lists { kind: 3.., .. }) = call {
+            return;
+        }
+        let mut model = Lent { place: vec![0; 3], ..before.clone() };
         model.words.resize(3, 0);
         let mut got = model.clone();
         let answer = match by_wrapper(call, sheet, &mut got) {
             Ok(()) => (0, ""),
             Err(refusal) => (refusal.number(), refusal.word()),
         };
-        let number = call.by_model(sheet, &mut model.list, &mut model.words, &mut model.place);
+        let number = call.by_model(sheet, &mut model);
         let wanted = (number, WORDS[number as usize]);
         self.tally.check(Part::Wrapper, answer == wanted && got == model, || {
             format!("{call:?} {answer:?} {got:?}\n  sheet {}\n  model {wanted:?} {model:?}", hex(sheet))
@@ -136,6 +148,7 @@ fn by_wrapper(call: &Call, sheet: &[u8], lent: &mut Lent) -> Result<(), Refusal>
             lent.words[..2].copy_from_slice(&runner);
             answer
         }
+        Call::Write(ref lists) => wrapper::write(lists, &mut lent.page).map(|length| lent.words[0] = length as u64),
     }
 }
 

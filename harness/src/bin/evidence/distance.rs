@@ -1,11 +1,11 @@
 //! How far bend numbers and places are from the exact spline: by an elimination in floats on courses of all sizes, and in exact
 //! arithmetic, from the spline's own properties, on small ones. A distance that is no number is within no limit.
 
-use crate::compare::{Comparison, Lent};
+use crate::compare::Comparison;
 use crate::parts::Part;
 use crate::worked::courses;
 use crate::{wrapper, Options};
-use harness::boundary::{Call, LIBRARY};
+use harness::boundary::{Call, Lent, LIBRARY};
 use harness::elimination;
 use harness::exact::Spline;
 use harness::model::Course;
@@ -51,7 +51,7 @@ fn near(comparison: &mut Comparison, largest: &mut Largest, off: f64, limit: f64
 /// The course of a sheet and the bend numbers that the library lays out for it.
 fn laid_out(comparison: &mut Comparison, sheet: &[u8]) -> Option<(Course, Vec<i64>)> {
     let course = comparison.course(sheet)?;
-    let before = Lent { list: vec![0; 3 * course.n], words: vec![], place: vec![] };
+    let before = Lent { list: vec![0; 3 * course.n], ..Lent::default() };
     let (answer, after) = comparison.call(&LIBRARY, &Call::LayOut, sheet, &before);
     comparison.require(answer == 0, || format!("an accepted sheet is not laid out: {answer}"));
     Some((course, after.list))

@@ -1,6 +1,7 @@
-//! A fence hit: where a call touches memory that was not lent to it, the system's signal is answered with a line that names the case.
+//! A fence hit: where a call touches memory that was not lent to it, or is handed a null pointer, the system's signal is answered with a
+//! line that names the case.
 
-use harness::boundary::Call;
+use harness::boundary::{Call, NAMES};
 use std::fmt::Write;
 use std::ptr::null_mut;
 use std::sync::atomic::{AtomicPtr, Ordering::SeqCst};
@@ -11,8 +12,8 @@ extern "C" {
     fn _exit(status: i32) -> !;
 }
 
-/// Linux's numbers of the two signals that a forbidden access gives.
-const SEGMENT_AND_BUS: [i32; 2] = [11, 7];
+/// Linux's numbers of the two signals that a forbidden access gives, and of the one by which gcc traps a null pointer (build.rs).
+const SEGMENT_BUS_TRAP: [i32; 3] = [11, 7, 4];
 
 /// The call that runs.
 pub struct Doing<'a> {
@@ -28,7 +29,7 @@ static NOW: AtomicPtr<Doing> = AtomicPtr::new(null_mut());
 
 /// From now on a fence hit ends the program with status 1 and a line on standard output.
 pub fn watch() {
-    for number in SEGMENT_AND_BUS {
+    for number in SEGMENT_BUS_TRAP {
         // SAFETY: the handler calls nothing that takes memory or locks.
         unsafe { signal(number, on_hit) };
     }
@@ -63,9 +64,11 @@ extern "C" fn on_hit(_: i32) {
     let _ = match unsafe { NOW.load(SeqCst).as_ref() } {
         None => write!(line, "FENCE: memory that is not this program's was touched between the calls"),
         Some(Doing { part, seed, case, implementation, call, sheet }) => {
-            let _ = write!(line, "FENCE (memory): {implementation} {call:?} touched what was not lent to it, ");
+            let _ = write!(line, "FENCE (memory): {implementation} {} touched what was not lent to it, ", NAMES[call.index()]);
             let _ = write!(line, "in part {part}, case {case} of seed {seed}\n  sheet ({} bytes) ", sheet.len());
-            sheet.iter().take(400).try_for_each(|byte| write!(line, "{byte:02x}"))
+            let _ = sheet.iter().take(400).try_for_each(|byte| write!(line, "{byte:02x}"));
+            // last, since lists are long
+            write!(line, "\n  {call:?}")
         }
     };
     line.bytes[line.length] = b'\n';

@@ -12,6 +12,7 @@ mod parts;
 mod sheets;
 mod worked;
 mod wrapper;
+mod writes;
 mod years;
 
 use compare::Comparison;

@@ -16,8 +16,10 @@ pub enum Part {
     CFiles,
     /// The Rust wrapper on some of them.
     Wrapper,
-    /// What was lent: no fence touched, no sheet written.
+    /// What was lent: no fence touched, no sheet to be read and no list to be written from changed.
     Memory,
+    /// Sheets from lists that the library writes, and reads again (G5, G6).
+    RoundTrips,
     /// Each number that a call tests was reached, no other.
     Answers,
     /// Bend numbers against the elimination in floats.
@@ -43,7 +45,7 @@ pub enum Part {
 }
 
 /// The parts' names, in the order above.
-pub const NAMES: [&str; 18] = [
+pub const NAMES: [&str; 19] = [
     "worked",
     "header",
     "calls",
@@ -51,6 +53,7 @@ pub const NAMES: [&str; 18] = [
     "c-files",
     "wrapper",
     "memory",
+    "round-trips",
     "answers",
     "bends",
     "places",

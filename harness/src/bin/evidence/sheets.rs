@@ -1,10 +1,11 @@
 //! Every call on random, boundary and damaged sheets.
 
-use crate::compare::{Comparison, Lent, ALL};
+use crate::compare::{Comparison, ALL};
 use crate::parts::Part;
-use crate::Options;
-use harness::boundary::{Call, NAMES, TESTS};
+use crate::{writes, Options};
+use harness::boundary::{Call, Lent, NAMES, TESTS};
 use harness::fence::Stand;
+use harness::lists;
 use harness::model::{self, Course, Kind, WORDS};
 use harness::random::Random;
 use harness::sheets;
@@ -26,13 +27,19 @@ pub fn run(options: &Options, comparison: &mut Comparison) {
             _ => sheets::damaged(&mut random),
         };
         let before = comparison.tally.differences();
-        match model::read(&sheet) {
+        let (lists, accepted) = match model::read(&sheet) {
             Ok(course) => {
                 of_kind[course.kind as usize] += 1;
                 on_accepted(&mut random, comparison, &sheet, &course);
+                (course.lists(), sheet)
             }
-            Err(_) => on_refused(&mut random, comparison, &sheet),
-        }
+            Err(_) => {
+                on_refused(&mut random, comparison, &sheet);
+                let draft = sheets::accepted(&mut random);
+                (lists::of_draft(&draft), draft.bytes())
+            }
+        };
+        writes::run(&mut random, comparison, &lists, &accepted);
         if comparison.tally.differences() > before && before < 10 {
             println!("  (case {case} of seed {})", options.seed);
         }
@@ -50,16 +57,17 @@ pub fn run(options: &Options, comparison: &mut Comparison) {
 }
 
 /// What is lent, filled with numbers that a call must replace or leave.
-fn lent(random: &mut Random, list: usize, words: usize, place: usize) -> Lent {
+pub fn lent(random: &mut Random, list: usize, words: usize, place: usize) -> Lent {
     Lent {
         list: (0..list).map(|_| random.word() as i64).collect(),
         words: (0..words).map(|_| random.word()).collect(),
         place: (0..place).map(|_| random.word() as i64).collect(),
+        page: vec![],
     }
 }
 
 /// The length of a lent out: mostly what is needed, or more, or less.
-fn room(random: &mut Random, needed: usize) -> usize {
+pub fn room(random: &mut Random, needed: usize) -> usize {
     match random.below(8) {
         0 => random.below(needed),
         1 => needed + random.below(4),
@@ -67,7 +75,7 @@ fn room(random: &mut Random, needed: usize) -> usize {
     }
 }
 
-fn try_call(random: &mut Random, comparison: &mut Comparison, call: Call, sheet: &[u8], before: &Lent) -> Lent {
+pub fn try_call(random: &mut Random, comparison: &mut Comparison, call: Call, sheet: &[u8], before: &Lent) -> Lent {
     let (_, after) = comparison.compare(&call, sheet, before);
     if random.once_in(8) {
         comparison.compare_wrapper(&call, sheet, before);
@@ -75,7 +83,7 @@ fn try_call(random: &mut Random, comparison: &mut Comparison, call: Call, sheet:
     after
 }
 
-/// All six calls once, with anything lent.
+/// Each call that gets a sheet once, with anything lent.
 fn on_refused(random: &mut Random, comparison: &mut Comparison, sheet: &[u8]) {
     let list = random.pick(&[0, 1, 6, 9, 40, 1536]);
     let (words, place) = (random.below(5), random.below(5));

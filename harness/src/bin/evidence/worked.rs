@@ -1,8 +1,9 @@
 //! The figures of group W, typed here by hand: model, library, C files and wrapper are held to them.
 
-use crate::compare::{Comparison, Lent};
+use crate::compare::Comparison;
 use crate::parts::Part;
-use harness::boundary::Call;
+use harness::boundary::{Call, Lent};
+use harness::model::Lists;
 use harness::random::Random;
 use harness::sheets::{chain, Draft, CLOSED, FREE, HELD};
 
@@ -62,7 +63,7 @@ fn expect(
 
 pub fn run(comparison: &mut Comparison) {
     comparison.part = Part::Worked;
-    let lent = |list: Vec<i64>| Lent { list, words: vec![u64::MAX; 3], place: vec![i64::MAX; 3] };
+    let lent = |list: Vec<i64>| Lent { list, words: vec![u64::MAX; 3], place: vec![i64::MAX; 3], page: vec![] };
     let place = |answer: u64, after: &Lent| format!("{answer} {:?}", after.place);
 
     for (draft, bends, places) in courses() {
@@ -93,16 +94,41 @@ pub fn run(comparison: &mut Comparison) {
         expect(comparison, &Call::PlaceAtTick { tick: tick as u64 }, &a, &before, wanted.to_string(), place);
     }
     refusals_and_far_tick(comparison);
+    writing(comparison);
     println!("worked courses: {} comparisons with the figures of group W", comparison.tally.compared(Part::Worked));
 }
 
 /// W8's tick stands at 7, which is offset 1 of leg 3; and W10.
 fn refusals_and_far_tick(comparison: &mut Comparison) {
-    let lent = Lent { list: vec![], words: vec![u64::MAX; 3], place: vec![] };
+    let lent = Lent { words: vec![u64::MAX; 3], ..Lent::default() };
     let square = Draft::of(CLOSED, &[2; 4], &[0, 6, 0, -6], None).bytes();
     let runner = |answer: u64, after: &Lent| format!("{answer} {:?}", &after.words[..2]);
     expect(comparison, &Call::RunnerAtTick { tick: u64::MAX }, &square, &lent, "0 [3, 1]".to_string(), runner);
     for (sheet, wanted) in read_or_refused() {
         expect(comparison, &Call::Read, &sheet, &lent, wanted.to_string(), |answer, _| answer.to_string());
     }
+}
+
+/// W12: course A from its lists; and lists at the edges of G3 and G4.
+fn writing(comparison: &mut Comparison) {
+    const SHEET: &str = "000000300100000300020002000000000000000a00000014000000080000000a00000016000000000000000a00000018";
+    let a = [0, 10, 20, 8, 10, 22, 0, 10, 24];
+    let mut written = |kind: u64, legs: &[u64], waypoints: &[i64], page: usize, wanted: &str| {
+        let call = Call::Write(Lists { kind, legs: legs.to_vec(), waypoints: waypoints.to_vec(), slopes: vec![] });
+        let before = Lent { words: vec![u64::MAX; 3], page: vec![0xee; page], ..Lent::default() };
+        expect(comparison, &call, &[], &before, wanted.to_string(), |answer, after| {
+            let digits: String = after.page.iter().map(|byte| format!("{byte:02x}")).collect();
+            format!("{answer} {} {digits}", after.words[0] as i64)
+        });
+    };
+    written(0, &[2, 2], &a, 48, &format!("0 48 {SHEET}"));
+    written(0, &[2, 2], &a, 50, &format!("0 48 {SHEET}eeee"));
+    written(0, &[2, 2], &a, 47, &format!("14 -1 {}", "ee".repeat(47)));
+    written(0, &[2, 2], &[&a[..], &[0]].concat(), 2, "5 -1 eeee");
+    written(0, &[2, 0], &a, 0, "6 -1 ");
+    written(0, &[2, 65_537], &a, 2, "6 -1 eeee");
+    written(0, &[2], &a[..5], 2, "4 -1 eeee");
+    written(0, &[2; 511], &[0; 1_537], 2, "5 -1 eeee");
+    written(0, &[2; 512], &[0; 1_539], 2, "4 -1 eeee");
+    written(u64::MAX, &[2, 2], &a, 2, "3 -1 eeee");
 }

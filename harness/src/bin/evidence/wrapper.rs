@@ -1,7 +1,8 @@
 //! The Rust wrapper's calls with plain numbers in place of its types: all that this program knows of them.
 
+use harness::model::Lists;
 pub use harness::station::Refusal;
-use harness::station::{self, Runner};
+use harness::station::{self, EndKind, Runner};
 
 /// Kind, N, P.
 pub fn read(sheet: &[u8]) -> Result<[u64; 3], Refusal> {
@@ -33,4 +34,10 @@ pub fn step(sheet: &[u8], runner: &mut [u64; 2]) -> Result<(), Refusal> {
     let answer = station::step(sheet, &mut moved);
     *runner = [moved.leg, moved.offset];
     answer
+}
+
+/// The sheet's length; for a kind below 3.
+pub fn write(lists: &Lists, page: &mut [u8]) -> Result<usize, Refusal> {
+    let kind = [EndKind::Free, EndKind::Held, EndKind::Closed][lists.kind as usize];
+    station::write(kind, &lists.legs, &lists.waypoints, &lists.slopes, page)
 }

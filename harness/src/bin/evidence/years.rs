@@ -1,10 +1,10 @@
 //! Ten years of ticks: places and runners at far ticks, steps against the runner at the tick, and one runner moved on through all of them.
 
-use crate::compare::{Comparison, Lent};
+use crate::compare::Comparison;
 use crate::parts::Part;
 use crate::wrapper;
 use crate::{Options, DEFAULT_STEPS};
-use harness::boundary::Call;
+use harness::boundary::{Call, Lent};
 use harness::model::LANDED;
 use harness::random::Random;
 use harness::sheets::{self, Draft, CLOSED, FREE, HELD};
@@ -68,7 +68,7 @@ fn on_foot(options: &Options, comparison: &mut Comparison, sheet: &[u8]) {
 fn far_ticks(options: &Options, comparison: &mut Comparison, random: &mut Random, sheet: &[u8]) {
     let Some(course) = comparison.course(sheet) else { return };
     let ticks = course.ticks() as u64;
-    let before = Lent { list: vec![0; 3 * course.n], words: vec![1; 2], place: vec![1; 3] };
+    let before = Lent { list: vec![0; 3 * course.n], words: vec![1; 2], place: vec![1; 3], page: vec![] };
     let (_, laid_out) = comparison.compare(&Call::LayOut, sheet, &before);
     for case in 0..(options.cases / 100).max(10) {
         comparison.case = case;
