@@ -1,12 +1,18 @@
--- One test in a call's chain (specs/Answers): what is left where it applies, where it does not, and where the call is not refused. For writer.
-use mathlib.Core.Path.{_≡_, refl, sym, ap}
-use mathlib.Core.Bool.{Bool, true, false}
+-- A call's tests and what it leaves, once for all calls: one test in its chain (specs/Answers), and what was lent, by its number (A9). For every later crate.
+use mathlib.Core.Path.{_≡_, refl, sym, ap, _∙_}
+use mathlib.Core.Bool.{Bool, true, false, cond}
 use native.Mathlib.Omega.{arith}
+use lib.Dec.{eqb}
+use borrow.Author.Tests.{eq-eqb, ne-eqb}
 use Rattle.sheet.specs.Answers.{Told, refused}
 use Rattle.sheet.specs.declared.Refusal.{Refusal}
 use Rattle.sheet.proofs.Told.{number-positive}
 use Rattle.answers.specs.Answers.{guard}
 
+pub never-zero : (r : Refusal) {X : Type 0} → refused r .number ≡ 0 → X
+never-zero r e = absurd (omega (arith, number-positive r))
+
+-- ---- a test that applies, one that does not, and one of a call that is not refused
 pub stopped : (b : Bool) (r : Refusal) (rest : Told) → b ≡ true → refused r ≡ guard b r rest
 stopped b r rest e = sym (ap (λ (x : Bool). guard x r rest) e)
 
@@ -14,5 +20,14 @@ pub passed : (b : Bool) (r : Refusal) (rest : Told) → b ≡ false → rest ≡
 passed b r rest e = sym (ap (λ (x : Bool). guard x r rest) e)
 
 pub not-refused : (b : Bool) (r : Refusal) (rest : Told) → guard b r rest .number ≡ 0 → (b ≡ false) × (rest .number ≡ 0)
-not-refused true r rest e = absurd (omega (arith, number-positive r))
+not-refused true r rest e = never-zero r e
 not-refused false r rest e = (refl, e)
+
+-- ---- what is left: the new where the call is done, the old where it is refused
+module _ {A : Type 0} (t : Told) (new old : A) where
+  pub done-changes : t .number ≡ 0 → cond (eqb (t .number) 0) new old ≡ new
+  done-changes e = ap (λ (b : Bool). cond b new old) (eq-eqb (t .number) 0 e)
+
+  pub refused-keeps : (r : Refusal) → refused r ≡ t → cond (eqb (t .number) 0) new old ≡ old
+  refused-keeps r e =
+      ap (λ (b : Bool). cond b new old) (ne-eqb (t .number) 0 (λ z. never-zero r (ap (λ (u : Told). u .number) e ∙ z)))

@@ -1,2 +1,2 @@
--- A test in a call's chain.
+-- Tests in a call's chain, and what a call leaves.
 pub mod Guards

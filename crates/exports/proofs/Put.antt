@@ -2,12 +2,12 @@
 use mathlib.Core.Path.{_≡_, refl, sym, ap}
 use mathlib.Core.Bool.{Bool, cond}
 use mathlib.Core.List.{List, [], _∷_, _++_}
-use Prim.Native.Nat.{ℕ, _≤_, _<_}
+use Prim.Native.Nat.{_≤_, _<_}
 use native.Mathlib.Omega.{arith}
 use lib.IntN.{ℤ, pos}
 use lib.ListN.{length, drop, set, getD}
-use borrow.Author.Tests.{le-leb, lt-leb, ne-eqb}
-use Rattle.sheet.proofs.Told.{number-positive}
+use borrow.Author.Tests.{le-leb, lt-leb}
+use Rattle.answers.proofs.Guards.{refused-keeps}
 use Rattle.sheet.specs.Answers.{refused}
 use Rattle.sheet.specs.declared.Refusal.{Refusal}
 use Rattle.sheet.specs.declared.Refusal.the-variants.{Adrift}
@@ -53,6 +53,4 @@ kept-tried = refl
 
 pub refused-written : {A : Type 0} (g : List ℤ → List A) (r : Refusal) (out : List A) → out ≡ writtenBy g (refused r) out
 unfolding writtenBy
-refused-written g r out =
-    let some : refused r .number ≡ 0 → ⊥ = λ e. omega (arith, number-positive r) in
-    sym (ap (λ (b : Bool). cond b (put (g []) out) out) (ne-eqb (refused r .number) 0 some))
+refused-written g r out = sym (refused-keeps (refused r) (put (g []) out) out r refl)

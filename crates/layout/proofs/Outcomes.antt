@@ -1,14 +1,12 @@
 -- What `layOut` and `laidOut` are (specs/Layout) where the sheet is refused, where the list is short, and where all is well.
-use mathlib.Core.Path.{_≡_, refl, ap, _∙_}
-use mathlib.Core.Bool.{Bool, cond}
+use mathlib.Core.Path.{_≡_, refl, sym, ap, _∙_}
+use mathlib.Core.Bool.{Bool}
 use mathlib.Core.List.{List, [], _∷_, _++_}
 use Prim.Native.Nat.{ℕ, _*_, _≤_, _<_}
-use native.Mathlib.Omega.{arith}
-use borrow.Author.Tests.{lt-ltb, le-ltb, ne-eqb}
-use lib.Dec.{eqb}
+use borrow.Author.Tests.{lt-ltb, le-ltb}
 use lib.IntN.{ℤ, pos}
 use lib.ListN.{length, drop, replicate}
-use Rattle.sheet.specs.Answers.{Told, numberOf, refused}
+use Rattle.sheet.specs.Answers.{Told, refused}
 use Rattle.sheet.specs.Fields.{kind, points, ticks}
 use Rattle.sheet.specs.Bytes.{be16, be32, signed32, anyBelow, sumBelow}
 use Rattle.sheet.specs.Reading.{readBy, readSheet, Accepted}
@@ -17,8 +15,8 @@ use Rattle.sheet.specs.declared.Refusal.the-variants.{Shelf}
 use Rattle.sheet.specs.declared.Reading.{Reading}
 use Rattle.sheet.specs.declared.Reading.the-variants.{Course, Refused}
 use Rattle.sheet.proofs.Laws.{accepted-read}
-use Rattle.sheet.proofs.Told.{number-positive}
 use Rattle.answers.specs.Answers.{done, passOn, guard}
+use Rattle.answers.proofs.Guards.{done-changes, refused-keeps}
 use Rattle.systems.specs.Passes.{turn, sweep, pass, passes}
 use Rattle.spline.specs.Spline.{freeRow, along, rowOf, rowsBy}
 use Rattle.layout.specs.Course.{course}
@@ -49,14 +47,10 @@ module _ (s : List ℕ) (room : ℕ) where
     done-answer h = accepted-answer ∙ ap (λ (b : Bool). guard b Shelf done) (le-ltb room (3 * points s) h)
 
 module _ (s : List ℕ) (list : List ℤ) where
-  laid : Told → List ℤ
-  laid t = cond (eqb (t .number) 0) (allBends s ++ drop (3 * points s) list) list
-
   pub refused-list : (r : Refusal) → layOut s (length list) ≡ refused r → laidOut s list ≡ list
-  unfolding laidOut laid
-  refused-list r e =
-      ap laid e ∙ ap (λ (b : Bool). cond b (allBends s ++ drop (3 * points s) list) list) (ne-eqb (numberOf r) 0 (λ z. omega (arith, number-positive r)))
+  unfolding laidOut
+  refused-list r e = refused-keeps (layOut s (length list)) (allBends s ++ drop (3 * points s) list) list r (sym e)
 
   pub done-list : layOut s (length list) ≡ done → laidOut s list ≡ allBends s ++ drop (3 * points s) list
-  unfolding laidOut laid
-  done-list e = ap laid e
+  unfolding laidOut
+  done-list e = done-changes (layOut s (length list)) (allBends s ++ drop (3 * points s) list) list (ap (λ (t : Told). t .number) e)

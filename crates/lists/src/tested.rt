@@ -23,7 +23,7 @@ fn four_outside(legs: &[u64], at: usize) -> bool
         | sheet::leg_outside(legs[at + 3])
 }
 
-// N6, of all legs: four a turn, which takes half the time, and then those that are left.
+// N6, of all legs: four a turn, which takes a third of the time, and then those that are left.
 fn legs_outside(legs: &[u64]) -> bool
     ensures { λ r. ⌜ r ≡ someLegOutside (now (legs .entry)) ⌝ }
 {

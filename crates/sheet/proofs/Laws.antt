@@ -3,7 +3,7 @@ use mathlib.Core.Path.{_≡_, refl, sym, ap, _∙_, subst}
 use mathlib.Core.Bool.{Bool, true, false}
 use mathlib.Core.List.{List, _∷_}
 use mathlib.Core.Logic.{_⊎_, inl, inr, ⊎-elim}
-use Prim.Native.Nat.{ℕ, suc, _+_, _*_, _≤_, _<_}
+use Prim.Native.Nat.{ℕ, suc, _≤_, _<_}
 use native.Mathlib.Omega.{arith}
 use borrow.Author.Tests.{ltb-false, eqb-true, not-false}
 use lib.Dec.{ltb, eqb}
@@ -15,9 +15,9 @@ use Rattle.ends.specs.declared.EndKind.the-variants.{Held}
 use Rattle.integers.proofs.Order.{le-or-lt}
 use Rattle.sheet.specs.Answers.{numberOf, told}
 use Rattle.sheet.specs.Bytes.{anyBelow}
-use Rattle.sheet.specs.Fields.{kind, points, legs, leg, ticks, waypointsFrom, waypoint, slopesFrom, slope, slopeBytes, sheetLength}
+use Rattle.sheet.specs.Fields.{kind, points, legs, leg, ticks, waypoint, slope, sheetLength}
 use Rattle.sheet.specs.Reading.{Accepted, legOutside, reachOutside, slopeOutside, slopesOutside, applies, lowest, mostPoints, longestSheet, readBy, readSheet}
-use Rattle.sheet.specs.Theorems.{ReadOrRefused, ReadAccepted, Bounds, AcceptedBounds}
+use Rattle.sheet.specs.Theorems.{ReadOrRefused, ReadAccepted, AcceptedBounds}
 use Rattle.sheet.specs.declared.Refusal.{Refusal}
 use Rattle.sheet.specs.declared.Refusal.the-variants.{Torn, Edition, Ends, Points, Size, Leg, Reach, Slope, Shelf, Past, Adrift, Bend, Landed, Page}
 use Rattle.sheet.specs.declared.Reading.{Reading}
@@ -180,14 +180,3 @@ accepted-bounds s a = record {
   some-ticks = some-ticks s a;
   few-ticks = few-ticks s a;
 }
-
--- ---- where the fields stand: each lies within an accepted sheet, so that the code may read it
-module _ (s : List ℕ) (b : Bounds s) where
-  pub leg-inside : (i : ℕ) → i < legs s → 8 + 2 * i + 2 ≤ length s
-  leg-inside i h = omega (arith, b .size)
-
-  pub waypoint-inside : (axis i : ℕ) → axis < 3 → i < points s → waypointsFrom s + 12 * i + 4 * axis + 4 ≤ length s
-  waypoint-inside axis i h k = omega (arith, b .size)
-
-  pub slope-inside : (axis side : ℕ) → axis < 3 → side < 2 → kind s ≡ Held → slopesFrom s + 12 * side + 4 * axis + 4 ≤ length s
-  slope-inside axis side h k e = omega (arith, b .size, ap slopeBytes e)

@@ -21,7 +21,7 @@ use crate::limits::reach_outside;
 use crate::limits::slope_outside;
 use ends::EndKind;
 
-// S4: the kind of a byte that is 0, 1 or 2. For the writer too.
+// S4: the kind of a byte that is 0, 1 or 2. For lists too.
 pub fn kind_of(byte: u8) -> EndKind
     ensures { λ r. ⌜ r ≡ kindOf byte ⌝ }
 {
@@ -32,7 +32,7 @@ pub fn kind_of(byte: u8) -> EndKind
     }
 }
 
-// S9: the bytes of a sheet. For the writer too.
+// S9: the bytes of a sheet. For lists too.
 pub fn sheet_length(kind: EndKind, points: usize) -> usize
     requires { ⌜ (1 ≤ points) × (points < 65536) ⌝ }
     ensures { λ r. ⌜ r ≡ sheetLength kind points ⌝ }

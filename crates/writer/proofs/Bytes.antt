@@ -17,7 +17,7 @@ pub signed-bits : (z : ℤ) → natAbs z < 2147483648 → signed32 (bits32 z) �
 signed-bits (pos n) h = signed-low n h
 signed-bits (negsuc n) h = signed-high (4294967295 - n) (omega arith) (omega arith) ∙ ap negsuc (omega arith)
 
-pub bits-signed : (x : ℕ) → x < 4294967296 → bits32 (signed32 x) ≡ x
+bits-signed : (x : ℕ) → x < 4294967296 → bits32 (signed32 x) ≡ x
 bits-signed x h =
     le-or-lt 2147483648 x (bits32 (signed32 x) ≡ x)
     (λ k. ap bits32 (signed-high x k h) ∙ omega arith)
@@ -59,7 +59,7 @@ module _ (s : List ℕ) (small : (i : ℕ) → byte s i < 256) where
       (λ i. e i ∷ f i ∷ drop (at + 2) s)
       ∙ sym (next at (omega arith) ∙ ap (λ l. byte s at ∷ l) (next (at + 1) (omega arith) ∙ ap (λ k. byte s (at + 1) ∷ drop k s) up))
 
-  pub word-small : (at : ℕ) → be32 s at < 4294967296
+  word-small : (at : ℕ) → be32 s at < 4294967296
   unfolding be16 be32
   word-small at = omega (arith, small at, small (at + 1), small (at + 2), small (at + 2 + 1))
 

@@ -1,16 +1,14 @@
 -- What a call leaves in the slice (specs/Writing), from its answer: a refusal all of it, the answered length the sheet and what stood behind it.
 -- (The worked sheet is named so that it is checked first.)
 use mathlib.Core.Path.{_≡_, sym, ap, _∙_}
-use mathlib.Core.Bool.{Bool, cond}
 use mathlib.Core.List.{List, _++_}
 use Prim.Native.Nat.{ℕ, _≤_}
 use native.Mathlib.Nat.{zero-add}
-use native.Mathlib.Omega.{arith}
-use borrow.Author.Tests.{eq-eqb, ne-eqb, ltb-false}
+use borrow.Author.Tests.{ltb-false}
 use lib.ListN.{length, drop}
 use Rattle.sheet.specs.Answers.{Told, refused}
 use Rattle.sheet.specs.declared.Refusal.{Refusal}
-use Rattle.sheet.proofs.Told.{number-positive}
+use Rattle.answers.proofs.Guards.{done-changes, refused-keeps}
 use Rattle.lists.specs.Lists.{Lists, sizeOf}
 use Rattle.writer.specs.Sheets.{writtenSheet}
 use Rattle.lists.specs.Answer.{toldWritten, writeSheet}
@@ -23,14 +21,12 @@ use Rattle.writer.proofs.Worked as worked
 use Rattle.lists.proofs.Tests.{Unrefused, unrefused, answered, writable}
 
 module _ (c : Lists) (out : List ℕ) where
-  abbrev left : Bool → List ℕ
-  left b = cond b (writtenSheet c ++ drop (sizeOf c) out) out
+  abbrev new : List ℕ
+  new = writtenSheet c ++ drop (sizeOf c) out
 
   pub left-refused : (r : Refusal) → refused r ≡ writeSheet c (length out) → out ≡ writtenInto c out
   unfolding writtenInto
-  left-refused r e =
-      let number = ap (λ (t : Told). t .number) e in
-      sym (ap left (ne-eqb (writeSheet c (length out) .number) 0 (λ z. omega (arith, number-positive r))))
+  left-refused r e = sym (refused-keeps (writeSheet c (length out)) new out r e)
 
   module _ (n : ℕ) (e : toldWritten (Length n) ≡ writeSheet c (length out)) where
     done : writeSheet c (length out) .number ≡ 0
@@ -54,4 +50,4 @@ module _ (c : Lists) (out : List ℕ) where
     unfolding over writtenInto
     left-written =
         ap (λ k. writtenSheet c ++ drop k out) (zero-add (length (writtenSheet c)) ∙ long c is-writable)
-        ∙ sym (ap left (eq-eqb (writeSheet c (length out) .number) 0 done))
+        ∙ sym (done-changes (writeSheet c (length out)) new out done)

@@ -19,7 +19,7 @@ module _ (l : List ℕ) (at : ℕ) where
     front = length-append (take at l) x ∙ ap (λ k. k + length x) (length-take-le at l (omega arith))
 
     -- y after x
-    pub over-more : (y : List ℕ) → over y (at + length x) (over x at l) ≡ over (x ++ y) at l
+    over-more : (y : List ℕ) → over y (at + length x) (over x at l) ≡ over (x ++ y) at l
     unfolding over
     over-more y =
         let end : at + length x + length y ≡ at + length (x ++ y) = omega (arith, length-append x y) in

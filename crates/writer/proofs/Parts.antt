@@ -39,7 +39,7 @@ module _ (c : Lists) where
   pub length-waypoints : length waypointPart ≡ 4 * length (c .waypoints)
   length-waypoints = flat-length numberBytes 4 (λ x. refl) (c .waypoints)
 
-  pub length-slopes : length slopePart ≡ 4 * length (c .slopes)
+  length-slopes : length slopePart ≡ 4 * length (c .slopes)
   length-slopes = flat-length numberBytes 4 (λ x. refl) (c .slopes)
 
   -- cut before the waypoints, and before the slopes

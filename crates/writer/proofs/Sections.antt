@@ -16,12 +16,12 @@ use Rattle.writer.proofs.Bytes.{signed-bits, bits-small, read-two, read
 use Rattle.writer.proofs.Over.{over-next}
 
 -- ---- one more element, at the end
-pub flat-append : {A : Type 0} (f : A → List ℕ) (k l : List A) → flatMap f (k ++ l) ≡ flatMap f k ++ flatMap f l
+flat-append : {A : Type 0} (f : A → List ℕ) (k l : List A) → flatMap f (k ++ l) ≡ flatMap f k ++ flatMap f l
 unfolding flatMap
 flat-append f [] l = refl
 flat-append f (x ∷ k) l = ap (λ r. f x ++ r) (flat-append f k l) ∙ sym (append-assoc (f x) (flatMap f k) (flatMap f l))
 
-pub flat-next : {A : Type 0} (f : A → List ℕ) (l : List A) (i : ℕ) (d : A) → i < length l
+flat-next : {A : Type 0} (f : A → List ℕ) (l : List A) (i : ℕ) (d : A) → i < length l
     → flatMap f (take i l) ++ f (getD l i d) ≡ flatMap f (take (i + 1) l)
 unfolding flatMap
 flat-next f l i d h = sym (
@@ -35,7 +35,7 @@ module _ {A : Type 0} (f : A → List ℕ) (w : ℕ) (wide : (x : A) → length 
   flat-length (x ∷ l) = length-append (f x) (flatMap f l) ∙ omega (arith, wide x, flat-length l, mul-suc w (length l))
 
   -- of the first i elements
-  pub flat-part : (l : List A) (i : ℕ) → i ≤ length l → length (flatMap f (take i l)) ≡ w * i
+  flat-part : (l : List A) (i : ℕ) → i ≤ length l → length (flatMap f (take i l)) ≡ w * i
   flat-part l i h = flat-length (take i l) ∙ ap (λ k. w * k) (length-take-le i l h)
 
   -- put element by element over a slice from a place on: one more, and all
@@ -68,7 +68,7 @@ module _ {A : Type 0} (f : A → List ℕ) (w : ℕ) (wide : (x : A) → length 
       ∙ in-section l q i j d (omega arith) k
 
   -- the same behind other bytes
-  pub section-byte : (p : List ℕ) (l : List A) (q : List ℕ) (i j at : ℕ) (d : A) → i < length l → j < w → at ≡ length p + (w * i + j)
+  section-byte : (p : List ℕ) (l : List A) (q : List ℕ) (i j at : ℕ) (d : A) → i < length l → j < w → at ≡ length p + (w * i + j)
       → byte (p ++ (flatMap f l ++ q)) at ≡ byte (f (getD l i d)) j
   section-byte p l q i j at d h k e =
       ap (λ n. byte (p ++ (flatMap f l ++ q)) n) e ∙ getD-append-add p (flatMap f l ++ q) (w * i + j) 0 ∙ in-section l q i j d h k

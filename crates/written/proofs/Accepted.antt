@@ -1,7 +1,7 @@
 -- A sheet that was written is accepted, and its fields are the lists (G5): every field stands where the section's law says, and each number passes the
 -- test that the list's number passed.
 use mathlib.Core.Path.{_≡_, refl, sym, ap, _∙_}
-use mathlib.Core.Bool.{Bool, false, cond, not, _||_}
+use mathlib.Core.Bool.{false, not, _||_}
 use mathlib.Core.List.{List, [], _∷_, _++_}
 use Prim.Native.Nat.{ℕ, zero, suc, _+_, _*_, _/_, _%_, _≤_, _<_}
 use native.Mathlib.Omega.{arith}
@@ -14,11 +14,12 @@ use Rattle.ends.specs.declared.EndKind.{EndKind}
 use Rattle.ends.specs.declared.EndKind.the-variants.{Free, Held, Closed}
 use Rattle.sheet.specs.Answers.{Told}
 use Rattle.sheet.specs.Bytes.{be32, signed32, anyBelow}
-use Rattle.sheet.specs.Fields.{lengthField, kind, points, legs, leg, waypoint, slope, slopeBytes, waypointsFrom, slopesFrom, sheetLength}
+use Rattle.sheet.specs.Fields.{lengthField, kind, points, legs, leg, waypoint, slope, waypointsFrom, slopesFrom, sheetLength}
 use Rattle.sheet.specs.Reading.{Accepted, legOutside, reachOutside, slopeOutside, slopesOutside, mostPoints}
 use Rattle.sheet.proofs.Below.{or-right, none-any}
-use Rattle.sheet.proofs.ByKind.{legs-at-most}
+use Rattle.sheet.proofs.ByKind.{least-two, held-longest}
 use Rattle.sheet.proofs.Laws.{passing-accepted}
+use Rattle.answers.proofs.Guards.{done-changes}
 use Rattle.lists.specs.Lists.{Lists, lists, kindIn, pointsIn, numberOn, slopeCount, sizeOf, listBelow, listsOf}
 use Rattle.writer.specs.Sheets.{writtenSheet}
 use Rattle.lists.specs.Answer.{toldWritten, writeSheet}
@@ -32,17 +33,12 @@ use Rattle.lists.proofs.Tests.{unrefused, answered, writable, nothing-applies}
 use Rattle.written.specs.Theorems.{FieldsAre, WellWritten, WrittenAccepted}
 
 -- the elements of a list, read one by one, are the list
-pub listed : {A : Type 0} (l : List A) (g : ℕ → A) (n : ℕ) (d : A) → n ≡ length l → ((i : ℕ) → i < length l → g i ≡ getD l i d) → listBelow g n ≡ l
+listed : {A : Type 0} (l : List A) (g : ℕ → A) (n : ℕ) (d : A) → n ≡ length l → ((i : ℕ) → i < length l → g i ≡ getD l i d) → listBelow g n ≡ l
 unfolding listBelow
 listed [] g zero d e h = refl
 listed [] g (suc n) d e h = absurd (omega arith)
 listed (x ∷ l) g zero d e h = absurd (omega arith)
 listed (x ∷ l) g (suc n) d e h = let first = h 0 (omega arith) in let rest = listed l (λ i. g (suc i)) n d (omega arith) (λ i k. h (suc i) (omega arith)) in (λ i. first i ∷ rest i)
-
-slope-few : (k : EndKind) → slopeBytes k ≤ 24
-slope-few Free = omega arith
-slope-few Held = omega arith
-slope-few Closed = omega arith
 
 module _ (c : Lists) (w : Writable c) where
   abbrev s : List ℕ
@@ -60,7 +56,7 @@ module _ (c : Lists) (w : Writable c) where
   is-legs = (λ i. legCount (is-kind i) (is-points i)) ∙ sym (w .all-legs)
 
   size-small : sizeOf c < 4294967296
-  size-small = omega (arith, legs-at-most (kindIn c) (pointsIn (c .waypoints)), slope-few (kindIn c), w .few)
+  size-small = omega (arith, held-longest (kindIn c) (pointsIn (c .waypoints)) (omega (arith, w .enough, least-two (kindIn c))), w .few)
 
   is-length : lengthField s ≡ length s
   unfolding writtenSheet
@@ -153,9 +149,9 @@ module _ (c : Lists) (w : Writable c) where
     unfolding writtenInto
     left =
         let done : writeSheet c (length out) .number ≡ 0 = ap (λ (t : Told). t .number) told in
-        ap (λ (b : Bool). cond b (s ++ drop (sizeOf c) out) out) (eq-eqb (writeSheet c (length out) .number) 0 done) ∙ ap (λ n. s ++ drop n out) (sym (long c w))
+        done-changes (writeSheet c (length out)) (s ++ drop (sizeOf c) out) out done ∙ ap (λ n. s ++ drop n out) (sym (long c w))
 
-    pub well-written : WellWritten c out
+    well-written : WellWritten c out
     well-written = record { answered = told; slice = left; accepted = accepted; fields = fields-are; whole = whole }
 
 pub written-accepted : WrittenAccepted

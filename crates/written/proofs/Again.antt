@@ -31,12 +31,12 @@ use Rattle.lists.proofs.Tests.{answered, nothing-applies}
 use Rattle.written.specs.Theorems.{WrittenAlike, WrittenAgain}
 
 -- ---- the list of f 0, .., f (n - 1)
-pub length-below : {A : Type 0} (f : ℕ → A) (n : ℕ) → length (listBelow f n) ≡ n
+length-below : {A : Type 0} (f : ℕ → A) (n : ℕ) → length (listBelow f n) ≡ n
 unfolding listBelow
 length-below f zero = refl
 length-below f (suc n) = ap suc (length-below (λ i. f (suc i)) n)
 
-pub get-below : {A : Type 0} (f : ℕ → A) (n i : ℕ) (d : A) → i < n → getD (listBelow f n) i d ≡ f i
+get-below : {A : Type 0} (f : ℕ → A) (n i : ℕ) (d : A) → i < n → getD (listBelow f n) i d ≡ f i
 unfolding listBelow
 get-below f zero i d h = absurd (omega arith)
 get-below f (suc n) zero d h = refl
@@ -50,7 +50,7 @@ module _ (s : List ℕ) (small : (i : ℕ) → byte s i < 256) (a : Accepted s) 
   b = accepted-bounds s a
 
   -- ---- the sections, from the last
-  pub slopes-again : flatMap numberBytes (listBelow (λ j. slope s (j % 3) (j / 3)) (slopeCount (kind s))) ≡ drop (slopesFrom s) s
+  slopes-again : flatMap numberBytes (listBelow (λ j. slope s (j % 3) (j / 3)) (slopeCount (kind s))) ≡ drop (slopesFrom s) s
   slopes-again =
       sym (append-nil _)
       ∙ ap (λ r. flatMap numberBytes (listBelow (λ j. slope s (j % 3) (j / 3)) (slopeCount (kind s))) ++ r)
@@ -60,7 +60,7 @@ module _ (s : List ℕ) (small : (i : ℕ) → byte s i < 256) (a : Accepted s) 
       subst (λ at. numberBytes (signed32 (be32 s at)) ++ drop (slopesFrom s + 4 * j + 4) s ≡ drop (slopesFrom s + 4 * j) s) (sym e)
       (number-again s small (slopesFrom s + 4 * j) (omega (arith, b .size, slope-size (kind s)))))
 
-  pub waypoints-again : flatMap numberBytes (listBelow (λ j. waypoint s (j % 3) (j / 3)) (3 * points s)) ++ drop (slopesFrom s) s ≡ drop (waypointsFrom s) s
+  waypoints-again : flatMap numberBytes (listBelow (λ j. waypoint s (j % 3) (j / 3)) (3 * points s)) ++ drop (slopesFrom s) s ≡ drop (waypointsFrom s) s
   waypoints-again =
       let end : slopesFrom s ≡ waypointsFrom s + 4 * (3 * points s) = omega arith in
       ap (λ k. flatMap numberBytes (listBelow (λ j. waypoint s (j % 3) (j / 3)) (3 * points s)) ++ drop k s) end
@@ -69,7 +69,7 @@ module _ (s : List ℕ) (small : (i : ℕ) → byte s i < 256) (a : Accepted s) 
       subst (λ at. numberBytes (signed32 (be32 s at)) ++ drop (waypointsFrom s + 4 * j + 4) s ≡ drop (waypointsFrom s + 4 * j) s) (sym e)
       (number-again s small (waypointsFrom s + 4 * j) (omega (arith, b .size))))
 
-  pub legs-again : flatMap bytes16 (listBelow (leg s) (legs s)) ++ drop (waypointsFrom s) s ≡ drop 8 s
+  legs-again : flatMap bytes16 (listBelow (leg s) (legs s)) ++ drop (waypointsFrom s) s ≡ drop 8 s
   legs-again = section-again bytes16 2 s (legs s) 8 (leg s) (λ i h. two-again s small (8 + 2 * i) (omega (arith, b .size)))
 
   body-again : bodyBytes c ≡ drop 8 s
@@ -80,7 +80,7 @@ module _ (s : List ℕ) (small : (i : ℕ) → byte s i < 256) (a : Accepted s) 
       ∙ legs-again
 
   -- ---- N, the length and the head
-  pub count-is : pointsIn (c .waypoints) ≡ points s
+  count-is : pointsIn (c .waypoints) ≡ points s
   unfolding listsOf
   count-is = omega (arith, length-below (λ j. waypoint s (j % 3) (j / 3)) (3 * points s))
 
@@ -126,7 +126,7 @@ module _ (s : List ℕ) (small : (i : ℕ) → byte s i < 256) (a : Accepted s) 
       let j = 3 * i + axis in let e : j % 3 ≡ axis = omega arith in let f : j / 3 ≡ i = omega arith in
       get-below (λ m. waypoint s (m % 3) (m / 3)) (3 * points s) j (pos 0) (omega arith) ∙ (λ m. waypoint s (e m) (f m))
 
-  pub writable-lists : Writable c
+  writable-lists : Writable c
   unfolding listsOf
   writable-lists = record {
     kind-few = ltb-false 2 (kindField s) (a Ends (omega arith));

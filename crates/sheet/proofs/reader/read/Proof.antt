@@ -7,7 +7,7 @@ use lib.ListN.{length}
 use borrow.Author.Needs.{needs}
 use Rattle.sheet.specs.Answers.{told}
 use Rattle.sheet.specs.Bytes.{be16, be32}
-use Rattle.sheet.specs.Reading.{mostPoints, lowest, readBy, readSheet}
+use Rattle.sheet.specs.Reading.{readBy}
 use Rattle.sheet.specs.declared.Refusal.the-variants.{Torn}
 use Rattle.sheet.proofs.Lowest.{past, passed, stopped}
 use Rattle.sheet.proofs.reader.read.Statement.{statement}
