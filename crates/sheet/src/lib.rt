@@ -25,7 +25,7 @@ pub const MOST_POINTS: usize = 512;
 // S9: the bytes of the longest sheet that is accepted.
 pub const LONGEST_SHEET: usize = 7198;
 
-// The refusals, in the order of their numbers (N1 to N14).
+// The refusals, in the order of their numbers (N1 to N15).
 pub enum Refusal {
     Torn,
     Edition,
@@ -41,6 +41,7 @@ pub enum Refusal {
     Bend,
     Landed,
     Page,
+    Start,
 }
 
 // A2: reading's answer, the kind, N and P; or its refusal.

@@ -3,7 +3,7 @@ ghost use mathlib.Core.Path.{_≡_};
 ghost use Rattle.sheet.specs.Answers.{numberOf};
 use crate::Refusal;
 
-// N1 to N14.
+// N1 to N15.
 pub fn number_of(refusal: Refusal) -> u64
     ensures { λ r. ⌜ r ≡ numberOf refusal ⌝ }
 {
@@ -22,5 +22,6 @@ pub fn number_of(refusal: Refusal) -> u64
         Refusal::Bend => 12,
         Refusal::Landed => 13,
         Refusal::Page => 14,
+        Refusal::Start => 15,
     }
 }

@@ -4,7 +4,7 @@ use Prim.Native.Nat.{ℕ}
 use lib.ListN.{take, replicate}
 use Rattle.sheet.specs.Answers.{numberOf}
 use Rattle.sheet.specs.declared.Refusal.{Refusal}
-use Rattle.sheet.specs.declared.Refusal.the-variants.{Torn, Edition, Ends, Points, Size, Leg, Reach, Slope, Shelf, Past, Adrift, Bend, Landed, Page}
+use Rattle.sheet.specs.declared.Refusal.the-variants.{Torn, Edition, Ends, Points, Size, Leg, Reach, Slope, Shelf, Past, Adrift, Bend, Landed, Page, Start}
 use Rattle.lines.specs.Ascii.{ascii}
 use Rattle.lines.specs.Lines.{digitsWithin}
 
@@ -24,6 +24,7 @@ word Adrift = ascii "adrift"
 word Bend = ascii "bend"
 word Landed = ascii "landed"
 word Page = ascii "page"
+word Start = ascii "start"
 
 -- T4: `refused`, the number in decimal, the word
 abbrev pub refusalLine : Refusal → List ℕ
@@ -36,4 +37,4 @@ row r = take 19 (refusalLine r ++ replicate 19 32)
 -- the rows of all lines, in the order of their numbers
 unfoldable pub refusalRows : List ℕ
 refusalRows =
-    row Torn ++ row Edition ++ row Ends ++ row Points ++ row Size ++ row Leg ++ row Reach ++ row Slope ++ row Shelf ++ row Past ++ row Adrift ++ row Bend ++ row Landed ++ row Page
+    row Torn ++ row Edition ++ row Ends ++ row Points ++ row Size ++ row Leg ++ row Reach ++ row Slope ++ row Shelf ++ row Past ++ row Adrift ++ row Bend ++ row Landed ++ row Page ++ row Start

@@ -33,6 +33,7 @@ pub fn put_refusal(out: &mut [u8], refusal: Refusal) -> usize
                  refused 11 adrift\n \
                  refused 12 bend\n   \
                  refused 13 landed\n \
-                 refused 14 page\n   ";
+                 refused 14 page\n   \
+                 refused 15 start\n  ";
     put_row(rows, refusal, out)
 }
