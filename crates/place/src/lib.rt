@@ -105,7 +105,7 @@ pub fn place_of_runner(s: &[u8], list: &[i64], at: Runner) -> Placed
         return refused(Refusal::Shelf);
     }
     let legs = ends::leg_count(kind, points);
-    if runner::is_adrift(s, kind, legs, at.leg, at.offset) {
+    if runner::is_adrift(s, kind, legs, at) {
         return refused(Refusal::Adrift);
     }
     place_at(s, list, points, legs, at)

@@ -1,44 +1,49 @@
--- A step's number tells whether the runner moved: 0 only where the answer is the runner moved on. For the step over a lent record.
+-- What number 0 tells of step and back alike: 1 to 8, 11 and the test of the call's own have passed, and the answer is the runner moved. So the number tells
+-- what a lent record holds afterwards. For the two lent forms and for Restored.
 use mathlib.Core.Path.{_≡_, refl, sym, ap, _∙_}
-use mathlib.Core.List.{List, _∷_}
+use mathlib.Core.Bool.{Bool, true, false, cond}
+use mathlib.Core.List.{List}
 use Prim.Native.Nat.{ℕ}
+use lib.Dec.{eqb}
 use lib.IntN.{pos, natAbs}
-use lib.ListN.{getD, replicate}
-use Rattle.answers.specs.Answers.{done, bare, passOn, guard}
-use Rattle.answers.proofs.Guards.{never-zero, passed, not-refused, done-changes, refused-keeps}
-use Rattle.sheet.specs.Answers.{Told, refused}
-use Rattle.sheet.specs.Bytes.{be16, be32, signed32, anyBelow, sumBelow}
-use Rattle.sheet.specs.Reading.{readBy, readSheet}
+use lib.ListN.{getD}
+use Rattle.answers.specs.Answers.{passOn, guard}
+use Rattle.answers.proofs.Guards.{never-zero, done-changes, refused-keeps}
+use Rattle.sheet.specs.Answers.{Told}
+use Rattle.sheet.specs.Reading.{Accepted, readSheet}
 use Rattle.sheet.specs.declared.Reading.{Reading}
 use Rattle.sheet.specs.declared.Reading.the-variants as R
 use Rattle.sheet.specs.declared.Refusal.{Refusal}
-use Rattle.sheet.specs.declared.Refusal.the-variants.{Adrift, Landed}
-use Rattle.runner.specs.Ticks.{runner, found}
-use Rattle.runner.specs.Steps.{adrift, landed, moved, stepped, onward}
+use Rattle.sheet.specs.declared.Refusal.the-variants.{Adrift}
+use Rattle.sheet.proofs.Laws.{accepted-read, read-accepted}
+use Rattle.runner.specs.Ticks.{runner, found, toldRunner, left}
+use Rattle.runner.specs.Steps.{adrift}
 use Rattle.runner.specs.declared.Runner.{Runner}
+use Rattle.runner.specs.declared.RunnerAnswer.{RunnerAnswer}
+use Rattle.runner.specs.declared.RunnerAnswer.the-variants.{At, Refused}
 
--- free, one leg of 4, both waypoints at 0
-abbrev four : List ℕ
-four = 0 ∷ 0 ∷ 0 ∷ 34 ∷ 1 ∷ 0 ∷ 0 ∷ 2 ∷ 0 ∷ 4 ∷ replicate 24 0
+-- the definition of step and back: b is the test of the call's own, of number q, and m the runner moved
+abbrev pub Chain : List ℕ → Runner → Bool → Refusal → Runner → Told
+Chain s r b q m = passOn (readSheet s) (guard (adrift s r) Adrift (guard b q (found m)))
 
--- tried: from its start to tick 1
-onward-tried : onward four (runner 0 0) ≡ runner 0 1
-unfolding be16 be32 signed32 anyBelow sumBelow readBy adrift moved stepped onward
-onward-tried = refl
+pub record Passed (s : List ℕ) (r : Runner) (b : Bool) : Type 0 where
+  pub accepted : Accepted s
+  pub fits : adrift s r ≡ false
+  pub free : b ≡ false
 
-was-read : (answer : Reading) (rest : Told) → passOn answer rest .number ≡ 0 → passOn answer rest ≡ rest
-was-read (R.Refused q) rest e = never-zero q e
-was-read (R.Course k n p) rest e = refl
+passed-by : (s : List ℕ) (r : Runner) (b : Bool) (q : Refusal) (m : Runner) (answer : Reading) (a c : Bool) → readSheet s ≡ answer → adrift s r ≡ a → b ≡ c
+    → passOn answer (guard a Adrift (guard c q (found m))) .number ≡ 0 → Passed s r b
+passed-by s r b q m (R.Refused w) a c read off own e = never-zero w e
+passed-by s r b q m (R.Course k n p) true c read off own e = never-zero Adrift e
+passed-by s r b q m (R.Course k n p) false true read off own e = never-zero q e
+passed-by s r b q m (R.Course k n p) false false read off own e = record { accepted = read-accepted s k n p read .0; fits = off; free = own }
 
--- no number applies: the answer is the runner moved on
-moved-when-done : (s : List ℕ) (r : Runner) → stepped s r .number ≡ 0 → stepped s r ≡ found (moved s r)
-unfolding stepped
-moved-when-done s r e =
-    let rest = guard (landed s r) Landed (found (moved s r)) in
-    let p = was-read (readSheet s) (guard (adrift s r) Adrift rest) e in
-    let a = not-refused (adrift s r) Adrift rest (ap (λ (t : Told). t .number) (sym p) ∙ e) in
-    let l = not-refused (landed s r) Landed (found (moved s r)) (a .1) in
-    p ∙ sym (passed (landed s r) Landed (found (moved s r)) (l .0) ∙ passed (adrift s r) Adrift rest (a .0))
+module _ (s : List ℕ) (r : Runner) (b : Bool) (q : Refusal) (m : Runner) where
+  pub has-passed : Chain s r b q m .number ≡ 0 → Passed s r b
+  has-passed = passed-by s r b q m (readSheet s) (adrift s r) b refl refl refl
+
+  pub answers-moved : Passed s r b → Chain s r b q m ≡ found m
+  answers-moved p = simp (accepted-read s (p .accepted), p .fits, p .free)
 
 -- two runners that are told alike are the same
 found-injective : (a b : Runner) → found a ≡ found b → a ≡ b
@@ -47,16 +52,10 @@ found-injective a b e =
     let y : a .offset ≡ b .offset = ap (λ (t : Told). natAbs (getD (t .values) 1 (pos 0))) e in
     λ i. runner (x i) (y i)
 
-module _ (s : List ℕ) (r : Runner) where
-  -- the step answered the runner `next`
-  pub kept-moved : (next : Runner) → found next ≡ stepped s r → (done ≡ bare (stepped s r)) × (runner (next .leg) (next .offset) ≡ onward s r)
-  unfolding onward
-  kept-moved next e =
-      let zero-number : stepped s r .number ≡ 0 = ap (λ (t : Told). t .number) (sym e) in
-      let same : next ≡ moved s r = found-injective next (moved s r) (e ∙ moved-when-done s r zero-number) in
-      (ap bare e, same ∙ sym (done-changes (stepped s r) (moved s r) r zero-number))
-
-  -- the step was refused
-  pub kept-refused : (q : Refusal) → refused q ≡ stepped s r → (refused q ≡ bare (stepped s r)) × (r ≡ onward s r)
-  unfolding onward
-  kept-refused q e = (ap bare e, sym (refused-keeps (stepped s r) (moved s r) r q e))
+-- an answer by value that is told as the chain leaves the record that the chain's number names
+pub kept-left : (s : List ℕ) (r : Runner) (b : Bool) (q : Refusal) (m : Runner) (answer : RunnerAnswer) → toldRunner answer ≡ Chain s r b q m
+    → left answer r ≡ cond (eqb (Chain s r b q m .number) 0) m r
+kept-left s r b q m (At next) e =
+    let zero-number : Chain s r b q m .number ≡ 0 = ap (λ (t : Told). t .number) (sym e) in
+    found-injective next m (e ∙ answers-moved s r b q m (has-passed s r b q m zero-number)) ∙ sym (done-changes (Chain s r b q m) m r zero-number)
+kept-left s r b q m (Refused w) e = sym (refused-keeps (Chain s r b q m) m r w e)

@@ -3,8 +3,8 @@ use mathlib.Core.Path.{_≡_, refl, sym, ap, _∙_, subst, subst₂}
 use mathlib.Core.Bool.{Bool, true, false, cond, true≢false, false≢true}
 use mathlib.Core.List.{List}
 use mathlib.Core.Logic.{_⊎_, inl, inr, ⊎-elim}
-use Prim.Native.Nat.{ℕ, zero, suc, _%_, _≤_, _<_, min}
-use native.Mathlib.Nat.{mod-eq-of-lt, mod-self, suc-mod, zero-mod}
+use Prim.Native.Nat.{ℕ, zero, suc, _+_, _%_, _≤_, _<_, min}
+use native.Mathlib.Nat.{mod-eq-of-lt, mod-self, suc-mod}
 use native.Mathlib.Omega.{arith}
 use lib.Dec.{ltb}
 use Rattle.ends.specs.declared.EndKind.{EndKind}
@@ -16,22 +16,18 @@ use Rattle.sheet.specs.Fields.{kind, legs, leg, ticks}
 use Rattle.sheet.specs.Reading.{Accepted}
 use Rattle.sheet.specs.declared.Refusal.the-variants.{Landed}
 use Rattle.runner.specs.Ticks.{runner, found, isOpen, spotAt, tickOf}
-use Rattle.runner.specs.Steps.{landed, lastStep, moved, stepped, onward, after}
+use Rattle.runner.specs.Steps.{landed, lastStep, moved, stepped, onward, repeated, after}
 use Rattle.runner.specs.Theorems.{Stands, ClosedSteps, OpenSteps, StepBefore}
 use Rattle.runner.specs.declared.Runner.{Runner}
 use Rattle.runner.proofs.Walk.{by-order}
-use Rattle.runner.proofs.Standing.{Standing, on-leg, at-end, standing, not-adrift, landed-at-end, not-landed, has-legs, tick-before, tick-at-end, has-tick, spot-only, closed-spot}
+use Rattle.runner.proofs.Standing.{Has, Standing, on-leg, at-end, standing, not-adrift, landed-at-end, not-landed, has-legs, tick-before, tick-at-end, has-tick, spot-only, closed-spot}
 
 -- the tick, of p in all, that a count of steps reaches: on an open course and on a closed one
-abbrev reached : Bool → ℕ → ℕ → ℕ
+abbrev pub reached : Bool → ℕ → ℕ → ℕ
 reached true p n = min n p
 reached false p n = n % p
 
-reached-zero : (b : Bool) (p : ℕ) → reached b p 0 ≡ 0
-reached-zero true p = omega arith
-reached-zero false p = zero-mod p
-
-reached-same : (b : Bool) (p t : ℕ) → (t < p) ⊎ ((b ≡ true) × (t ≡ p)) → reached b p t ≡ t
+reached-same : (b : Bool) (p t : ℕ) → Has b p t → reached b p t ≡ t
 reached-same true p t has = ⊎-elim (λ q. omega arith) (λ w. omega arith) has
 reached-same false p t has = ⊎-elim mod-eq-of-lt (λ w. absurd (false≢true (w .0))) has
 
@@ -40,7 +36,7 @@ reached-next true p n = omega arith
 reached-next false p n = sym (suc-mod n p)
 
 -- where a count of steps leaves a runner
-abbrev After : List ℕ → ℕ → Runner → Type 0
+abbrev pub After : List ℕ → ℕ → Runner → Type 0
 After s n r = Stands s (reached (isOpen (kind s)) (ticks s) n) r
 
 -- a runner that stands somewhere stands at its own tick, which is one that the course has
@@ -49,7 +45,7 @@ stands-at s t r st e =
     let same = reached-same (isOpen (kind s)) (ticks s) (tickOf s r) (has-tick s r st) in
     record { fits = not-adrift s r st; tick = sym same ∙ ap (reached (isOpen (kind s)) (ticks s)) e }
 
-open-or-closed : (k : EndKind) → (isOpen k ≡ true) ⊎ (k ≡ Closed)
+pub open-or-closed : (k : EndKind) → (isOpen k ≡ true) ⊎ (k ≡ Closed)
 open-or-closed Free = inl refl
 open-or-closed Held = inl refl
 open-or-closed Closed = inr refl
@@ -64,7 +60,7 @@ module _ (s : List ℕ) (a : Accepted s) where
   leg-low = accepted-bounds s a .leg-low
 
   -- at the first waypoint
-  start-stands : Stands s 0 (runner 0 0)
+  pub start-stands : Stands s 0 (runner 0 0)
   unfolding tickOf sumBelow
   start-stands = record { fits = not-adrift s (runner 0 0) (on-leg (has-legs s a) (leg-low 0 (has-legs s a))); tick = refl }
 
@@ -102,9 +98,13 @@ module _ (s : List ℕ) (a : Accepted s) where
       (λ none. last-stands r (omega arith) (omega arith)))
 
   -- before the end a step answers where the runner has moved on to ..
-  step-done : (r : Runner) → r .leg < legs s → r .offset < leg s (r .leg) → stepped s r ≡ found (moved s r)
+  pub step-done : (r : Runner) → r .leg < legs s → r .offset < leg s (r .leg) → stepped s r ≡ found (moved s r)
   unfolding stepped
   step-done r p q = simp (accepted-read s a, not-adrift s r (on-leg p q), not-landed s r q)
+
+  pub onward-done : (r : Runner) → r .leg < legs s → r .offset < leg s (r .leg) → onward s r ≡ moved s r
+  unfolding onward
+  onward-done r p q = rw (step-done r p q)
 
   -- .. and at the end landed
   step-landed : (r : Runner) → isOpen (kind s) ≡ true → suc (r .leg) ≡ legs s → r .offset ≡ leg s (r .leg) → stepped s r ≡ refused Landed
@@ -112,7 +112,7 @@ module _ (s : List ℕ) (a : Accepted s) where
   step-landed r o p q = simp (accepted-read s a, not-adrift s r (at-end o p q), landed-at-end s r o p q)
 
   -- a step from any runner that fits the sheet
-  onward-from : (r : Runner) → Standing s r → After s (suc (tickOf s r)) (onward s r)
+  pub onward-from : (r : Runner) → Standing s r → After s (suc (tickOf s r)) (onward s r)
   unfolding onward
   onward-from r (on-leg p q) = rw (step-done r p q) (moved-stands r p q)
   onward-from r (at-end o p q) = rw (step-landed r o p q) (record { fits = not-adrift s r (at-end o p q); tick = last })
@@ -120,14 +120,23 @@ module _ (s : List ℕ) (a : Accepted s) where
       last : tickOf s r ≡ reached (isOpen (kind s)) (ticks s) (suc (tickOf s r))
       last = omega (arith, tick-at-end s r p q, ap (λ b. reached b (ticks s) (suc (tickOf s r))) o)
 
+  -- n steps from any runner that fits the sheet, and from the first waypoint
+  pub steps-stand : (r : Runner) → Standing s r → (n : ℕ) → After s (tickOf s r + n) (repeated (onward s) n r)
+  unfolding repeated
+  steps-stand r st zero = stands-at s (tickOf s r + 0) r st (omega arith)
+  steps-stand r st (suc n) =
+      let m = repeated (onward s) n r in
+      let w = steps-stand r st n in
+      subst (λ t. Stands s t (onward s m))
+      (ap (λ t. reached (isOpen (kind s)) (ticks s) (suc t)) (w .tick)
+      ∙ reached-next (isOpen (kind s)) (ticks s) (tickOf s r + n)
+      ∙ ap (reached (isOpen (kind s)) (ticks s)) (omega arith))
+      (onward-from m (standing s m (w .fits)))
+
   after-stands : (n : ℕ) → After s n (after s n)
-  unfolding after
-  after-stands zero = rw (reached-zero (isOpen (kind s)) (ticks s)) start-stands
-  after-stands (suc n) =
-      let w = after-stands n in
-      subst (λ t. Stands s t (onward s (after s n)))
-      (ap (λ t. reached (isOpen (kind s)) (ticks s) (suc t)) (w .tick) ∙ reached-next (isOpen (kind s)) (ticks s) n)
-      (onward-from (after s n) (standing s (after s n) (w .fits)))
+  after-stands n =
+      subst (λ t. After s t (after s n)) (omega (arith, start-stands .tick))
+      (steps-stand (runner 0 0) (standing s (runner 0 0) (start-stands .fits)) n)
 
 pub closed-steps : ClosedSteps
 closed-steps s a e n =

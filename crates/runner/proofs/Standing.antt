@@ -23,6 +23,8 @@ use Rattle.runner.specs.Steps.{landed, adrift}
 use Rattle.runner.specs.Theorems.{Stands, TickStands, OneRunner}
 use Rattle.runner.specs.declared.Runner.{Runner}
 use Rattle.runner.proofs.Walk.{Found, walk-finds, walk-only}
+-- checked first, so that a wrong definition fails by its numbers
+use Rattle.runner.proofs.Worked as worked
 
 -- M3, what is left by N11: on a leg, below its length, or at the end of an open course
 pub data Standing (s : List ℕ) (r : Runner) : Type 0 where
@@ -68,9 +70,12 @@ pub offset-below : (s : List ℕ) (r : Runner) → Standing s r → landed s r �
 offset-below s r (on-leg p q) e = q
 offset-below s r (at-end o p q) e = absurd (true≢false (sym (landed-at-end s r o p q) ∙ e))
 
--- the ticks that a course has: those below P, and P itself where it is open
+-- the ticks, of p in all, that a course has: those below p, and p itself where it is open
+abbrev pub Has : Bool → ℕ → ℕ → Type 0
+Has b p t = (t < p) ⊎ ((b ≡ true) × (t ≡ p))
+
 abbrev pub HasTick : List ℕ → ℕ → Type 0
-HasTick s t = (t < ticks s) ⊎ ((isOpen (kind s) ≡ true) × (t ≡ ticks s))
+HasTick s t = Has (isOpen (kind s)) (ticks s) t
 
 pub tick-before : (s : List ℕ) (r : Runner) → r .leg < legs s → r .offset < leg s (r .leg) → tickOf s r < ticks s
 unfolding tickOf sumBelow
@@ -102,7 +107,7 @@ found-stands s t r some has f = record { fits = not-adrift s r (⊎-elim (on-leg
         ⊎-elim (λ q. on-leg (omega arith) (omega arith)) (λ w. at-end (w .0) last (omega arith)) has
 
 -- reducing a tick that the course has changes nothing, and reducing twice is reducing once
-reduced-same : (k : EndKind) (p t : ℕ) → (t < p) ⊎ ((isOpen k ≡ true) × (t ≡ p)) → reduced k p t ≡ t
+reduced-same : (k : EndKind) (p t : ℕ) → Has (isOpen k) p t → reduced k p t ≡ t
 reduced-same Free p t has = refl
 reduced-same Held p t has = refl
 reduced-same Closed p t has = ⊎-elim mod-eq-of-lt (λ w. absurd (false≢true (w .0))) has

@@ -41,7 +41,10 @@ stepped s r = passOn (readSheet s) (guard (adrift s r) Adrift (guard (landed s r
 unfoldable pub onward : List ℕ → Runner → Runner
 onward s r = cond (eqb (stepped s r .number) 0) (moved s r) r
 
--- M4, M5: the record after n steps from the first waypoint
-unfoldable pub after : List ℕ → ℕ → Runner
-after s zero = runner 0 0
-after s (suc n) = onward s (after s n)
+-- M4, M5, M9: a runner after n moves of one sort, each by its own definition; and the record after n steps from the first waypoint
+unfoldable pub repeated : (Runner → Runner) → ℕ → Runner → Runner
+repeated move zero r = r
+repeated move (suc n) r = move (repeated move n r)
+
+abbrev pub after : List ℕ → ℕ → Runner
+after s n = repeated (onward s) n (runner 0 0)

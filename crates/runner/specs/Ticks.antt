@@ -35,6 +35,11 @@ abbrev pub toldRunner : RunnerAnswer → Told
 toldRunner (At r) = found r
 toldRunner (Refused r) = refused r
 
+-- A9: the runner that an answer leaves of one that a call was asked to move
+abbrev pub left : RunnerAnswer → Runner → Runner
+left (At next) r = next
+left (Refused q) r = r
+
 -- an open course has ends, free or held
 abbrev pub isOpen : EndKind → Bool
 isOpen Free = true

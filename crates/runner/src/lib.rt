@@ -1,9 +1,14 @@
-// Ticks and runners (P3, P4, group M): the runner from a tick, and the step. For place and the C boundary.
+// Ticks and runners (P3, P4, group M): the runner from a tick, the step, and back. For place and the C boundary.
+mod backs;
+mod records;
 mod steps;
 mod ticks;
 
+pub use backs::back;
+pub use backs::back_record;
+pub use backs::backed;
+pub use records::RunnerOutcome;
 use sheet::Refusal;
-pub use steps::StepOutcome;
 pub use steps::is_adrift;
 pub use steps::step;
 pub use steps::step_record;

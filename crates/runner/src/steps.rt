@@ -2,11 +2,13 @@
 ghost use mathlib.Core.Path.{_≡_};
 ghost use mathlib.Core.Bool.{false};
 ghost use Prim.Native.Nat.{_<_};
-ghost use Rattle.runner.specs.Ticks.{IsRead, runner, toldRunner};
+ghost use Rattle.runner.specs.Ticks.{IsRead, toldRunner};
 ghost use Rattle.answers.specs.Answers.{toldOutcome, bare};
 ghost use Rattle.runner.specs.Steps.{adrift, landed, moved, stepped, onward};
 use crate::Runner;
 use crate::RunnerAnswer;
+use crate::records::RunnerOutcome;
+use crate::records::kept;
 use crate::ticks::is_open;
 use answers::Outcome;
 use ends::EndKind;
@@ -15,36 +17,37 @@ use sheet::Refusal;
 use sheet::leg_length;
 
 // N13: at the end of an open course.
-fn is_landed(s: &[u8], kind: EndKind, legs: usize, leg: u64, offset: u64) -> bool
+fn is_landed(s: &[u8], kind: EndKind, legs: usize, at: Runner) -> bool
     requires { ⌜ IsRead (now s) kind legs ⌝ }
-    requires { ⌜ leg < legs ⌝ }
-    ensures { λ r. ⌜ r ≡ landed (now (s .entry)) (runner leg offset) ⌝ }
+    requires { ⌜ at .leg < legs ⌝ }
+    ensures { λ r. ⌜ r ≡ landed (now (s .entry)) at ⌝ }
 {
-    is_open(kind) & (leg + 1 == legs as u64) & (offset == leg_length(s, leg as usize))
+    is_open(kind) & (at.leg + 1 == legs as u64) & (at.offset == leg_length(s, at.leg as usize))
 }
 
 // N11: on none of the legs, or not below its leg's length; an open course's end is allowed.
-pub fn is_adrift(s: &[u8], kind: EndKind, legs: usize, leg: u64, offset: u64) -> bool
+pub fn is_adrift(s: &[u8], kind: EndKind, legs: usize, at: Runner) -> bool
     requires { ⌜ IsRead (now s) kind legs ⌝ }
-    ensures { λ r. ⌜ r ≡ adrift (now (s .entry)) (runner leg offset) ⌝ }
+    ensures { λ r. ⌜ r ≡ adrift (now (s .entry)) at ⌝ }
 {
-    if legs as u64 <= leg {
+    if legs as u64 <= at.leg {
         return true;
     }
-    if offset < leg_length(s, leg as usize) {
+    if at.offset < leg_length(s, at.leg as usize) {
         return false;
     }
-    !is_landed(s, kind, legs, leg, offset)
+    !is_landed(s, kind, legs, at)
 }
 
 // One tick on: on its leg, to the start of the next one, to the end of an open course, or round to the first waypoint.
-fn moved(s: &[u8], kind: EndKind, legs: usize, leg: u64, offset: u64) -> Runner
+fn moved(s: &[u8], kind: EndKind, legs: usize, at: Runner) -> Runner
     requires { ⌜ IsRead (now s) kind legs ⌝ }
-    requires { ⌜ adrift (now s) (runner leg offset) ≡ false ⌝ }
-    requires { ⌜ landed (now s) (runner leg offset) ≡ false ⌝ }
-    ensures { λ r. ⌜ r ≡ moved (now (s .entry)) (runner leg offset) ⌝ }
+    requires { ⌜ adrift (now s) at ≡ false ⌝ }
+    requires { ⌜ landed (now s) at ≡ false ⌝ }
+    ensures { λ r. ⌜ r ≡ moved (now (s .entry)) at ⌝ }
 {
-    let next = offset + 1;
+    let leg = at.leg;
+    let next = at.offset + 1;
     if next < leg_length(s, leg as usize) {
         return Runner { leg, offset: next };
     }
@@ -61,9 +64,9 @@ fn moved(s: &[u8], kind: EndKind, legs: usize, leg: u64, offset: u64) -> Runner
     }
 }
 
-// The step by value, on leg and offset (A7). Tests 1 to 8, 11 and 13.
-pub fn stepped(s: &[u8], leg: u64, offset: u64) -> RunnerAnswer
-    ensures { λ r. ⌜ toldRunner r ≡ stepped (now (s .entry)) (runner leg offset) ⌝ }
+// The step by value (A7). Tests 1 to 8, 11 and 13.
+pub fn stepped(s: &[u8], at: Runner) -> RunnerAnswer
+    ensures { λ r. ⌜ toldRunner r ≡ stepped (now (s .entry)) at ⌝ }
 {
     let reading = sheet::read(s);
     let Reading::Course {
@@ -75,61 +78,36 @@ pub fn stepped(s: &[u8], leg: u64, offset: u64) -> RunnerAnswer
         return RunnerAnswer::Refused(answers::refusal_of(reading));
     };
     let legs = ends::leg_count(kind, points);
-    if is_adrift(s, kind, legs, leg, offset) {
+    if is_adrift(s, kind, legs, at) {
         return RunnerAnswer::Refused(Refusal::Adrift);
     }
-    if is_landed(s, kind, legs, leg, offset) {
+    if is_landed(s, kind, legs, at) {
         return RunnerAnswer::Refused(Refusal::Landed);
     }
-    RunnerAnswer::At(moved(s, kind, legs, leg, offset))
+    RunnerAnswer::At(moved(s, kind, legs, at))
 }
 
-// What a step leaves: leg and offset, moved on or as they were, and the outcome.
-pub struct StepOutcome {
-    pub leg: u64,
-    pub offset: u64,
-    pub outcome: Outcome,
-}
-
-// The covered step under the lent one (F7): a refused one gives leg and offset back as they came (A9).
-fn onward(s: &[u8], leg: u64, offset: u64) -> StepOutcome
-    ensures { λ r. ⌜ (toldOutcome (r .outcome) ≡ bare (stepped (now (s .entry)) (runner leg offset))) × (runner (r .leg) (r .offset) ≡ onward (now (s .entry)) (runner leg offset)) ⌝ }
+// The covered step under the lent one (F7): a refused one gives the runner back as it came (A9).
+fn onward(s: &[u8], at: Runner) -> RunnerOutcome
+    ensures { λ r. ⌜ (toldOutcome (r .outcome) ≡ bare (stepped (now (s .entry)) at)) × (r .at ≡ onward (now (s .entry)) at) ⌝ }
 {
-    match stepped(s, leg, offset) {
-        RunnerAnswer::At(next) => StepOutcome {
-            leg: next.leg,
-            offset: next.offset,
-            outcome: Outcome::Done,
-        },
-        RunnerAnswer::Refused(r) => StepOutcome {
-            leg,
-            offset,
-            outcome: Outcome::Refused(r),
-        },
-    }
+    kept(stepped(s, at), at)
 }
 
 // M2: the step over a lent record. Tests 1 to 8, 11 and 13; a refused one leaves the record alone (A9).
 pub fn step(s: &[u8], r: &mut Runner) -> Outcome
     ensures { λ x. ⌜ (toldOutcome x ≡ bare (stepped (now (s .entry)) (now (r .entry)))) × (now (r .exit) ≡ onward (now (s .entry)) (now (r .entry))) ⌝ }
 {
-    let leg = r.leg;
-    let offset = r.offset;
-    let n = onward(s, leg, offset);
-    r.leg = n.leg;
-    r.offset = n.offset;
+    let n = onward(s, *r);
+    *r = n.at;
     n.outcome
 }
 
-// The lent step on a record of its own: for callers that keep two numbers, and for the program that runs it (crates/runner_runs).
-pub fn step_record(s: &[u8], leg: u64, offset: u64) -> StepOutcome
-    ensures { λ r. ⌜ (toldOutcome (r .outcome) ≡ bare (stepped (now (s .entry)) (runner leg offset))) × (runner (r .leg) (r .offset) ≡ onward (now (s .entry)) (runner leg offset)) ⌝ }
+// The lent step on a record of its own, for the program that runs it (crates/runner_runs).
+pub fn step_record(s: &[u8], at: Runner) -> RunnerOutcome
+    ensures { λ r. ⌜ (toldOutcome (r .outcome) ≡ bare (stepped (now (s .entry)) at)) × (r .at ≡ onward (now (s .entry)) at) ⌝ }
 {
-    let mut r = Runner { leg, offset };
+    let mut r = at;
     let outcome = step(s, &mut r);
-    StepOutcome {
-        leg: r.leg,
-        offset: r.offset,
-        outcome,
-    }
+    RunnerOutcome { at: r, outcome }
 }

@@ -1,9 +1,12 @@
 // Runners on four small sheets, a line to a case: the runner at each tick up to P + 1, steps three times round the closed courses and past the end of the
-// open ones, the last of the unsigned 64-bit ticks, runners that are adrift or have landed, and a sheet that is torn. Each step is made on a lent record.
+// open ones and as many backs and more, the last of the unsigned 64-bit ticks, runners that are adrift, have landed or are at the start, and a sheet that is torn.
+// Each step and each back is made on a lent record.
 use answers::Outcome;
 use libc::STDOUT_FILENO;
+use runner::Runner;
 use runner::RunnerAnswer;
-use runner::StepOutcome;
+use runner::RunnerOutcome;
+use runner::back_record;
 use runner::runner_at_tick;
 use runner::step_record;
 use sheet::Refusal;
@@ -20,20 +23,21 @@ fn print_refusal(refusal: Refusal) {
         Refusal::Past => print(b"past"),
         Refusal::Adrift => print(b"adrift"),
         Refusal::Landed => print(b"landed"),
+        Refusal::Start => print(b"start"),
         _ => print(b"refused"),
     }
 }
 
-fn print_runner(leg: u64, offset: u64) {
+fn print_runner(at: Runner) {
     print(b"leg ");
-    io::print_decimal(STDOUT_FILENO, leg);
+    io::print_decimal(STDOUT_FILENO, at.leg);
     print(b" offset ");
-    io::print_decimal(STDOUT_FILENO, offset);
+    io::print_decimal(STDOUT_FILENO, at.offset);
 }
 
 fn print_answer(answer: RunnerAnswer) {
     match answer {
-        RunnerAnswer::At(r) => print_runner(r.leg, r.offset),
+        RunnerAnswer::At(r) => print_runner(r),
         RunnerAnswer::Refused(refusal) => print_refusal(refusal),
     }
     print(b"\n");
@@ -54,33 +58,49 @@ fn show_ticks(name: &[u8], s: &[u8], count: u64) {
     }
 }
 
-// A step of a runner that may be anywhere.
-fn show_step(name: &[u8], s: &[u8], leg: u64, offset: u64) -> StepOutcome {
+// A step or a back of a runner that may be anywhere.
+fn show_move(name: &[u8], s: &[u8], is_step: bool, leg: u64, offset: u64) -> Runner {
     print(name);
-    print(b" from ");
+    if is_step {
+        print(b" from ");
+    } else {
+        print(b" back from ");
+    }
     io::print_decimal(STDOUT_FILENO, leg);
     print(b" ");
     io::print_decimal(STDOUT_FILENO, offset);
     print(b": ");
-    let after = step_record(s, leg, offset);
+    let at = Runner { leg, offset };
+    let after = if is_step {
+        step_record(s, at)
+    } else {
+        back_record(s, at)
+    };
     let outcome = after.outcome;
     match outcome {
-        Outcome::Done => print_runner(after.leg, after.offset),
+        Outcome::Done => print_runner(after.at),
         Outcome::Refused(refusal) => print_refusal(refusal),
     }
     print(b"\n");
-    after
+    after.at
 }
 
-// Steps from the first waypoint. A refused one leaves the runner where it stands.
-fn show_steps(name: &[u8], s: &[u8], count: u64) {
-    let mut leg = 0;
-    let mut offset = 0;
+// Moves of one sort from a runner. A refused one leaves it where it stands.
+fn show_moves(name: &[u8], s: &[u8], is_step: bool, count: u64, start: Runner) -> Runner {
+    let mut leg = start.leg;
+    let mut offset = start.offset;
     for _ in 0..count {
-        let after = show_step(name, s, leg, offset);
-        leg = after.leg;
-        offset = after.offset;
+        let at = show_move(name, s, is_step, leg, offset);
+        leg = at.leg;
+        offset = at.offset;
     }
+    Runner { leg, offset }
+}
+
+// Steps from the first waypoint, and then backs.
+fn show_steps(name: &[u8], s: &[u8], steps: u64, backs: u64) {
+    let end = show_moves(name, s, true, steps, Runner { leg: 0, offset: 0 });
+    show_moves(name, s, false, backs, end);
 }
 
 // Free, legs 2 and 3; and the same sheet with its last byte missing.
@@ -92,14 +112,18 @@ fn run_free() {
     s[9] = 2;
     s[11] = 3;
     show_ticks(b"free", &s, 7);
-    show_steps(b"free", &s, 8);
-    show_step(b"free", &s, 0, 2);
-    show_step(b"free", &s, 1, 4);
-    show_step(b"free", &s, 2, 0);
-    show_step(b"free", &s, 0, LAST);
-    show_step(b"free", &s, LAST, LAST);
+    show_steps(b"free", &s, 8, 7);
+    show_move(b"free", &s, true, 0, 2);
+    show_move(b"free", &s, true, 1, 4);
+    show_move(b"free", &s, true, 2, 0);
+    show_move(b"free", &s, true, 0, LAST);
+    show_move(b"free", &s, true, LAST, LAST);
+    show_move(b"free", &s, false, 0, 2);
+    show_move(b"free", &s, false, 2, 0);
+    show_move(b"free", &s, false, 0, LAST);
     show_tick(b"torn", &s[..47], 0);
-    show_step(b"torn", &s[..47], LAST, LAST);
+    show_move(b"torn", &s[..47], true, LAST, LAST);
+    show_move(b"torn", &s[..47], false, 0, 0);
 }
 
 // Held, one leg of 4.
@@ -112,7 +136,7 @@ fn run_held() {
     s[9] = 4;
     show_ticks(b"held", &s, 6);
     show_tick(b"held", &s, LAST);
-    show_steps(b"held", &s, 7);
+    show_steps(b"held", &s, 7, 6);
 }
 
 // Closed, four legs of 2.
@@ -128,10 +152,12 @@ fn run_even() {
     s[15] = 2;
     show_ticks(b"even", &s, 10);
     show_tick(b"even", &s, LAST);
-    show_steps(b"even", &s, 25);
-    show_step(b"even", &s, 3, 2);
-    show_step(b"even", &s, 4, 0);
-    show_step(b"even", &s, LAST, 0);
+    show_steps(b"even", &s, 25, 27);
+    show_move(b"even", &s, true, 3, 2);
+    show_move(b"even", &s, true, 4, 0);
+    show_move(b"even", &s, true, LAST, 0);
+    show_move(b"even", &s, false, 3, 2);
+    show_move(b"even", &s, false, LAST, 0);
 }
 
 // Closed, legs 1, 3 and 2.
@@ -146,7 +172,7 @@ fn run_mixed() {
     s[13] = 2;
     show_ticks(b"mixed", &s, 8);
     show_tick(b"mixed", &s, LAST);
-    show_steps(b"mixed", &s, 19);
+    show_steps(b"mixed", &s, 19, 21);
 }
 
 fn main() {

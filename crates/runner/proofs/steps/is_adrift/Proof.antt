@@ -4,7 +4,6 @@ use mathlib.Core.Bool.{not}
 use native.Mathlib.Omega.{arith}
 use borrow.Author.Tests.{lt-ltb, le-ltb}
 use Rattle.sheet.specs.Fields.{legs, leg}
-use Rattle.runner.specs.Ticks.{runner}
 use Rattle.runner.specs.Steps.{adrift}
 use Rattle.runner.proofs.Room.{room}
 use Rattle.runner.proofs.Standing.{on-leg, not-adrift}
@@ -15,21 +14,21 @@ use Rattle.runner.proofs.steps.is_adrift.Tie as tie
 returns : tie.Need-returns
 unfolding adrift
 returns c =
-    let e = c .before .before in
-    simp (le-ltb (e .args .leg) (legs (e .args .s .now)) (omega arith))
+    let e = c .before .before .before in
+    simp (le-ltb (e .args .at .leg) (legs (e .args .s .now)) (omega arith))
 
 leg-length-requires : tie.Need-leg-length-requires
-leg-length-requires c κs = let r = room _ _ _ (c .before .before .pre) in omega arith
+leg-length-requires c κs = let r = room _ _ _ (c .before .before .before .pre) in omega arith
 
 -- tried at the full length, 4, of a leg: not below it
-full-tried : (c : tie.Then2) → c .before .before .before .before .args .offset ≡ 4 → c .before .leg-length .result ≡ 4 → ⊥
+full-tried : (c : tie.Then2) → c .before .before .before .before .before .before .args .at .offset ≡ 4 → c .before .before .leg-length .result ≡ 4 → ⊥
 full-tried c u h = omega arith
 
 returns-2 : tie.Need-returns-2
 returns-2 c =
-    let e = c .before .before .before .before in
-    let h = c .before .leg-length .ensures in
-    sym (not-adrift (e .args .s .now) (runner (e .args .leg) (e .args .offset)) (on-leg (omega arith) (omega arith)))
+    let e = c .before .before .before .before .before .before in
+    let h = c .before .before .leg-length .ensures in
+    sym (not-adrift (e .args .s .now) (e .args .at) (on-leg (omega arith) (omega arith)))
 
 is-landed-requires : tie.Need-is-landed-requires
 is-landed-requires c κs = search needs
@@ -37,11 +36,11 @@ is-landed-requires c κs = search needs
 returns-3 : tie.Need-returns-3
 unfolding adrift
 returns-3 c =
-    let e = c .before .before .before .before .before in
-    let l = e .args .leg in
+    let e = c .before .before .before .before .before .before .before in
+    let l = e .args .at .leg in
     let s = e .args .s .now in
-    let h = c .before .before .leg-length .ensures in
-    ap not (c .is-landed .ensures) ∙ simp (lt-ltb l (legs s) (omega arith), le-ltb (e .args .offset) (leg s l) (omega arith))
+    let h = c .before .before .before .leg-length .ensures in
+    ap not (c .is-landed .ensures) ∙ simp (lt-ltb l (legs s) (omega arith), le-ltb (e .args .at .offset) (leg s l) (omega arith))
 
 pub is-adrift-spec : {M : Type 1} → statement M
 is-adrift-spec =

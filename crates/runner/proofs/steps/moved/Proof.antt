@@ -23,13 +23,13 @@ abbrev S : tie.Start → List ℕ
 S c = c .args .s .now
 
 abbrev R : tie.Start → Runner
-R c = runner (c .args .leg) (c .args .offset)
+R c = c .args .at
 
 -- on a leg of the sheet, below its length, which is at most 256
 record Going (c : tie.Start) : Type 0 where
-  on : c .args .leg < c .args .legs
-  below : c .args .offset < leg (S c) (c .args .leg)
-  short : leg (S c) (c .args .leg) ≤ 256
+  on : c .args .at .leg < c .args .legs
+  below : c .args .at .offset < leg (S c) (c .args .at .leg)
+  short : leg (S c) (c .args .at .leg) ≤ 256
 
 going : (c : tie.Start) → Going c
 going c =
@@ -38,41 +38,41 @@ going c =
     record {
       on = omega (arith, c .pre .0 .is-legs);
       below = offset-below (S c) (R c) st (c .pre .1 .1);
-      short = accepted-bounds (S c) (c .pre .0 .accepted) .leg-high (c .args .leg) on;
+      short = accepted-bounds (S c) (c .pre .0 .accepted) .leg-high (c .args .at .leg) on;
     }
 
-next-offset : (c : tie.Start) → runner (c .args .leg) (c .args .offset + 1) ≡ runner (c .args .leg) (suc (c .args .offset))
-next-offset c = ap (runner (c .args .leg)) (add-one (c .args .offset))
+next-offset : (c : tie.Start) → runner (c .args .at .leg) (c .args .at .offset + 1) ≡ runner (c .args .at .leg) (suc (c .args .at .offset))
+next-offset c = ap (runner (c .args .at .leg)) (add-one (c .args .at .offset))
 
 -- the last tick of the last leg, at a kind that the match has told
-past-last : (c : tie.Else2) (k : EndKind) → c .before .before .before .before .args .kind ≡ k
-    → lastStep k (R (c .before .before .before .before)) ≡ moved (S (c .before .before .before .before)) (R (c .before .before .before .before))
+past-last : (c : tie.Else2) (k : EndKind) → c .before .before .before .before .before .args .kind ≡ k
+    → lastStep k (R (c .before .before .before .before .before)) ≡ moved (S (c .before .before .before .before .before)) (R (c .before .before .before .before .before))
 unfolding moved
 past-last c k told =
-    let e = c .before .before .before .before in
+    let e = c .before .before .before .before .before in
     let h = c .before .before .leg-length .ensures in
     ap (λ j. lastStep j (R e)) (sym told ∙ e .pre .0 .is-kind)
-    ∙ simp (le-ltb (suc (e .args .offset)) (leg (S e) (e .args .leg)) (omega arith), le-ltb (suc (e .args .leg)) (legs (S e)) (omega (arith, e .pre .0 .is-legs)))
+    ∙ simp (le-ltb (suc (e .args .at .offset)) (leg (S e) (e .args .at .leg)) (omega arith), le-ltb (suc (e .args .at .leg)) (legs (S e)) (omega (arith, e .pre .0 .is-legs)))
 
 add-next : tie.Need-add-next
-add-next c = let g = going (c .before) in record { fits = omega arith }
+add-next c = let g = going (c .before .before) in record { fits = omega arith }
 
 leg-length-requires : tie.Need-leg-length-requires
-leg-length-requires c κs = let g = going (c .before) in let r = room _ _ _ (c .before .pre .0) in omega arith
+leg-length-requires c κs = let g = going (c .before .before) in let r = room _ _ _ (c .before .before .pre .0) in omega arith
 
 -- tried at offset 1 on the first leg: to offset 2
-step-tried : (c : tie.Then1) → let e = c .before .before .before in moved (S e) (R e) ≡ runner 0 2 → e .args .leg ≡ 0 → e .args .offset ≡ 1 → Tried
+step-tried : (c : tie.Then1) → let e = c .before .before .before .before in moved (S e) (R e) ≡ runner 0 2 → e .args .at .leg ≡ 0 → e .args .at .offset ≡ 1 → Tried
 step-tried c m l u = tried (λ (need : tie.Need-returns). need c) (_∙_ {b = runner 0 2} (simp (l, u) refl) (sym m))
 
 returns : tie.Need-returns
 unfolding moved
 returns c =
-    let e = c .before .before .before in
+    let e = c .before .before .before .before in
     let h = c .before .leg-length .ensures in
-    next-offset e ∙ simp (lt-ltb (suc (e .args .offset)) (leg (S e) (e .args .leg)) (omega arith))
+    next-offset e ∙ simp (lt-ltb (suc (e .args .at .offset)) (leg (S e) (e .args .at .leg)) (omega arith))
 
 add-if2 : tie.Need-add-if2
-add-if2 c = let e = c .before .before .before in let g = going e in let r = room _ _ _ (e .pre .0) in record { fits = omega arith }
+add-if2 c = let e = c .before .before .before .before in let g = going e in let r = room _ _ _ (e .pre .0) in record { fits = omega arith }
 
 add-t11 : tie.Need-add-t11
 add-t11 c = search needs
@@ -80,10 +80,10 @@ add-t11 c = search needs
 returns-2 : tie.Need-returns-2
 unfolding moved
 returns-2 c =
-    let e = c .before .before .before .before in
+    let e = c .before .before .before .before .before in
     let h = c .before .before .leg-length .ensures in
-    ap (λ i. runner i 0) (add-one (e .args .leg))
-    ∙ simp (le-ltb (suc (e .args .offset)) (leg (S e) (e .args .leg)) (omega arith), lt-ltb (suc (e .args .leg)) (legs (S e)) (omega (arith, e .pre .0 .is-legs)))
+    ap (λ i. runner i 0) (add-one (e .args .at .leg))
+    ∙ simp (le-ltb (suc (e .args .at .offset)) (leg (S e) (e .args .at .leg)) (omega arith), lt-ltb (suc (e .args .at .leg)) (legs (S e)) (omega (arith, e .pre .0 .is-legs)))
 
 enum-told : tie.Need-enum-told
 enum-told c = search needs
@@ -95,14 +95,14 @@ enum-told-3 : tie.Need-enum-told-3
 enum-told-3 c = search needs
 
 returns-3 : tie.Need-returns-3
-returns-3 c = let k = c .before .before in next-offset (k .before .before .before .before) ∙ past-last k _ (c .enum-told .given .1)
+returns-3 c = let k = c .before .before in next-offset (k .before .before .before .before .before) ∙ past-last k _ (c .enum-told .given .1)
 
 returns-4 : tie.Need-returns-4
-returns-4 c = let k = c .before .before in next-offset (k .before .before .before .before) ∙ past-last k _ (c .enum-told2 .given .1)
+returns-4 c = let k = c .before .before in next-offset (k .before .before .before .before .before) ∙ past-last k _ (c .enum-told2 .given .1)
 
 -- tried at the last tick of a closed course, leg 2 and offset 3: round to the first waypoint
-round-tried : (c : tie.After-enum-told3) → let e = c .before .before .before .before .before .before in e .args .leg ≡ 2 → e .args .offset ≡ 3 → moved (S e) (runner 2 3) ≡ runner 0 0 → Tried
-round-tried c l u m = tried (λ (need : tie.Need-returns-5). need c) (simp (l, u, m) refl)
+round-tried : (c : tie.After-enum-told3) → let e = c .before .before .before .before .before .before .before in R e ≡ runner 2 3 → moved (S e) (runner 2 3) ≡ runner 0 0 → Tried
+round-tried c r m = tried (λ (need : tie.Need-returns-5). need c) (simp (r, m) refl)
 
 returns-5 : tie.Need-returns-5
 returns-5 c = past-last (c .before .before) _ (c .enum-told3 .given .1)

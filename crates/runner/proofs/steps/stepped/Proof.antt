@@ -4,7 +4,7 @@ use mathlib.Core.Bool.{false}
 use mathlib.Core.List.{List}
 use Prim.Native.Nat.{ℕ}
 use native.Mathlib.Omega.{arith}
-use Rattle.runner.specs.Ticks.{runner, found, IsRead}
+use Rattle.runner.specs.Ticks.{found, IsRead}
 use Rattle.runner.specs.Steps.{adrift, stepped}
 use Rattle.runner.specs.declared.Runner.{Runner}
 use Rattle.runner.proofs.Entry.{Course, course, passed-on}
@@ -18,7 +18,7 @@ module _ (c : tie.After-known-told) where
   S = c .before .before .before .before .before .args .s .now
 
   abbrev R : Runner
-  R = runner (c .before .before .before .before .before .args .leg) (c .before .before .before .before .before .args .offset)
+  R = c .before .before .before .before .before .args .at
 
   told-course : Course S (c .before .reading .given .0 .0) (c .before .reading .given .0 .1 .0) (c .before .reading .given .0 .1 .1 .0)
   told-course = course S _ (c .before .before .before .read .ensures) _ _ _ (c .before .reading .given .1)

@@ -1,20 +1,20 @@
--- `runner_runs::show_steps` ends: the loop counts the steps.
+-- `runner_runs::show_moves` ends: the loop counts the moves.
 use Prim.Native.Nat.{_-_, _≤_}
 use borrow.Author.Needs.{needs}
-use Rattle.runner_runs.proofs.show_steps.Statement.{statement}
-use Rattle.runner_runs.proofs.show_steps.Tie as tie
+use Rattle.runner_runs.proofs.show_moves.Statement.{statement}
+use Rattle.runner_runs.proofs.show_moves.Tie as tie
 
 abbrev Inv-loop : tie.InvT-loop
-Inv-loop name s count leg₀ offset₀ counter₀ leg offset counter = counter ≤ count
+Inv-loop name s is-step count leg₀ offset₀ counter₀ leg offset counter = counter ≤ count
 
 abbrev μ-loop : tie.MeasureT-loop
-μ-loop name s count leg₀ offset₀ counter₀ leg offset counter = count - counter
+μ-loop name s is-step count leg₀ offset₀ counter₀ leg offset counter = count - counter
 
 loop-holds : tie.Need-loop-holds Inv-loop μ-loop
 loop-holds c = search needs
 
-show-step-requires : tie.Need-show-step-requires Inv-loop μ-loop
-show-step-requires c κs = search needs
+show-move-requires : tie.Need-show-move-requires Inv-loop μ-loop
+show-move-requires c κs = search needs
 
 add-counter : tie.Need-add-counter Inv-loop μ-loop
 add-counter c = search needs
@@ -28,14 +28,14 @@ loop-again c = search needs
 returns : tie.Need-returns Inv-loop μ-loop
 returns c = search needs
 
-pub show-steps-spec : {M : Type 1} → statement M
-show-steps-spec =
+pub show-moves-spec : {M : Type 1} → statement M
+show-moves-spec =
     tie.close
     (tie.spec
     Inv-loop
     μ-loop
     loop-holds
-    show-step-requires
+    show-move-requires
     add-counter
     loop-less
     loop-again
