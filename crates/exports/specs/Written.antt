@@ -1,4 +1,4 @@
--- What an exported function leaves in the slice that is lent for its results, and the step of a runner that is lent as a slice. For exports alone.
+-- What an exported function leaves in the slice that is lent for its results, and step and back of a runner that is lent as a slice. For exports alone.
 use mathlib.Core.Bool.{cond}
 use mathlib.Core.List.{List, _++_, map}
 use Prim.Native.Nat.{ℕ}
@@ -10,7 +10,7 @@ use Rattle.sheet.specs.Reading.{readSheet}
 use Rattle.sheet.specs.declared.Refusal.the-variants.{Adrift}
 use Rattle.answers.specs.Answers.{passOn}
 use Rattle.runner.specs.Ticks.{runner}
-use Rattle.runner.specs.Steps.{stepped}
+use Rattle.runner.specs.declared.Runner.{Runner}
 
 -- the values at the front of the slice where it has room for them, and the slice as it was where it has not; the rest is kept
 unfoldable pub put : {A : Type 0} → List A → List A → List A
@@ -33,10 +33,10 @@ written = writtenBy signed
 abbrev pub writtenUnsigned : Told → List ℕ → List ℕ
 writtenUnsigned = writtenBy unsigned
 
--- A1, A8: without a runner the step answers the sheet's refusal, and otherwise adrift
+-- A1, A8: without a runner step and back answer the sheet's refusal, and otherwise adrift
 abbrev pub noRunner : List ℕ → Told
 noRunner s = passOn (readSheet s) (refused Adrift)
 
--- a lent runner is two numbers, leg and offset; a shorter slice holds none
-unfoldable pub steppedSlice : List ℕ → List ℕ → Told
-steppedSlice s r = cond (leb 2 (length r)) (stepped s (runner (getD r 0 0) (getD r 1 0))) (noRunner s)
+-- a lent runner is two numbers, leg and offset; a shorter slice holds none. `call` is step or back by value
+unfoldable pub movedSlice : (List ℕ → Runner → Told) → List ℕ → List ℕ → Told
+movedSlice call s r = cond (leb 2 (length r)) (call s (runner (getD r 0 0) (getD r 1 0))) (noRunner s)

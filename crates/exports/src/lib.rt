@@ -20,8 +20,10 @@ ghost use Rattle.lists.specs.Answer.{toldWritten, writeSheet};
 ghost use Rattle.writer.specs.Writing.{writtenInto};
 ghost use Rattle.layout.specs.Layout.{layOut, laidOut};
 ghost use Rattle.runner.specs.Ticks.{runner, toldRunner, runnerAtTick};
+ghost use Rattle.runner.specs.Steps.{stepped};
+ghost use Rattle.runner.specs.Backs.{backed};
 ghost use Rattle.place.specs.Places.{toldPlaced, placeAtTick, placeOfRunner};
-ghost use Rattle.exports.specs.Written.{put, written, writtenUnsigned, noRunner, steppedSlice};
+ghost use Rattle.exports.specs.Written.{put, written, writtenUnsigned, noRunner, movedSlice};
 
 // S4: the number of a kind.
 fn kind_number(kind: EndKind) -> u64
@@ -173,7 +175,7 @@ pub extern "C" fn station_runner_at_tick(sheet: &[u8], tick: u64, out: &mut [u64
     tell_runner(runner::runner_at_tick(sheet, tick), out)
 }
 
-// The step's answer where no runner is lent: the sheet's refusal, and otherwise adrift.
+// The answer of step and back where no runner is lent: the sheet's refusal, and otherwise adrift.
 fn no_runner(sheet: &[u8]) -> RunnerAnswer
     ensures { λ r. ⌜ toldRunner r ≡ noRunner (now (sheet .entry)) ⌝ }
 {
@@ -190,13 +192,29 @@ fn no_runner(sheet: &[u8]) -> RunnerAnswer
 // lent = leg, offset, moved on in place
 #[no_mangle]
 pub extern "C" fn station_step(sheet: &[u8], lent: &mut [u64]) -> u64
-    ensures answer { λ r. ⌜ r ≡ steppedSlice (now (sheet .entry)) (now (lent .entry)) .number ⌝ }
-    ensures lent { λ r. ⌜ now (lent .exit) ≡ writtenUnsigned (steppedSlice (now (sheet .entry)) (now (lent .entry))) (now (lent .entry)) ⌝ }
+    ensures answer { λ r. ⌜ r ≡ movedSlice stepped (now (sheet .entry)) (now (lent .entry)) .number ⌝ }
+    ensures lent { λ r. ⌜ now (lent .exit) ≡ writtenUnsigned (movedSlice stepped (now (sheet .entry)) (now (lent .entry))) (now (lent .entry)) ⌝ }
 {
     if lent.len() < 2 {
         return tell_runner(no_runner(sheet), lent);
     }
-    tell_runner(runner::stepped(sheet, lent[0], lent[1]), lent)
+    let leg = lent[0];
+    let offset = lent[1];
+    tell_runner(runner::stepped(sheet, Runner { leg, offset }), lent)
+}
+
+// lent = leg, offset, moved back in place
+#[no_mangle]
+pub extern "C" fn station_back(sheet: &[u8], lent: &mut [u64]) -> u64
+    ensures answer { λ r. ⌜ r ≡ movedSlice backed (now (sheet .entry)) (now (lent .entry)) .number ⌝ }
+    ensures lent { λ r. ⌜ now (lent .exit) ≡ writtenUnsigned (movedSlice backed (now (sheet .entry)) (now (lent .entry))) (now (lent .entry)) ⌝ }
+{
+    if lent.len() < 2 {
+        return tell_runner(no_runner(sheet), lent);
+    }
+    let leg = lent[0];
+    let offset = lent[1];
+    tell_runner(runner::backed(sheet, Runner { leg, offset }), lent)
 }
 
 // The length into the slice, or the refusal's number.

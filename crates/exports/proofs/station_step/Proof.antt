@@ -1,5 +1,6 @@
 -- `exports::station_step` meets its contract: a slice with two numbers lends a runner, and a shorter one none; telling writes the answer.
 use mathlib.Core.Path.{_∙_}
+use Rattle.runner.specs.Steps.{stepped}
 use Rattle.exports.specs.Written.{unsigned}
 use Rattle.exports.proofs.Tell.{tells-on}
 use Rattle.exports.proofs.Lent.{runner-lent, none-lent}
@@ -20,13 +21,13 @@ returns : tie.Need-returns
 returns c =
     let t = c .before .before in let s = t .before .before .before .before .before .before .args in
     let short = t .before .before .before .if1 .taken in
-    tells-on unsigned (s .lent .now) (t .tell-runner .ensures) (t .before .before .no-runner .ensures ∙ none-lent (s .sheet .now) (s .lent .now) short)
+    tells-on unsigned (s .lent .now) (t .tell-runner .ensures) (t .before .before .no-runner .ensures ∙ none-lent stepped (s .sheet .now) (s .lent .now) short)
 
-slice-read-stepped : tie.Need-slice-read-stepped
-slice-read-stepped c = search needs
+slice-read-leg : tie.Need-slice-read-leg
+slice-read-leg c = search needs
 
-slice-read-stepped-2 : tie.Need-slice-read-stepped-2
-slice-read-stepped-2 c = search needs
+slice-read-offset : tie.Need-slice-read-offset
+slice-read-offset c = search needs
 
 stepped-requires : tie.Need-stepped-requires
 stepped-requires c κs = search needs
@@ -41,7 +42,7 @@ returns-2 : tie.Need-returns-2
 returns-2 c =
     let t = c .before .before in let s = t .before .before .before .before .before .before .before .before .args in
     let room = t .before .before .before .before .before .if1 .left in
-    tells-on unsigned (s .lent .now) (t .tell-runner2 .ensures) (t .before .before .stepped .ensures ∙ runner-lent (s .sheet .now) (s .lent .now) room)
+    tells-on unsigned (s .lent .now) (t .tell-runner2 .ensures) (t .before .before .stepped .ensures ∙ runner-lent stepped (s .sheet .now) (s .lent .now) room)
 
 pub station-step-spec : {M : Type 1} → statement M
 station-step-spec =
@@ -51,8 +52,8 @@ station-step-spec =
     tell-runner-requires
     same-length
     returns
-    slice-read-stepped
-    slice-read-stepped-2
+    slice-read-leg
+    slice-read-offset
     stepped-requires
     tell-runner-requires-2
     same-length-2
