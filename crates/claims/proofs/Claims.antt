@@ -17,6 +17,9 @@ use Rattle.spline.proofs.Distance.{position-sharp}
 use Rattle.layout.proofs.Near.{course-in-bounds, laid-out-near}
 use Rattle.runner.proofs.Standing.{tick-stands, one-runner}
 use Rattle.runner.proofs.Onward.{closed-steps, open-steps, step-before}
+use Rattle.runner.proofs.Backward.{back-behind, back-tick, back-ticks}
+use Rattle.runner.proofs.Restored.{back-after-step, step-after-back, backs-after-steps, steps-after-backs}
+use Rattle.runner.proofs.Worked.{moves-tried}
 use Rattle.place.proofs.Waypoints.{tick-is-runner, leg-ends-met, waypoint-met-at-tick, waypoint-met-by-runner}
 use Rattle.station.proofs.Claim.{claim}
 use Rattle.station.proofs.Own.{own-laid}
@@ -44,6 +47,7 @@ claims = record {
     accepted-bounds = accepted-bounds;
     longest = longest;
     step-before = step-before;
+    back-behind = back-behind;
     tick-is-runner = tick-is-runner;
     row-gap = row-gap;
     laid-out-near = laid-out-near;
@@ -54,6 +58,12 @@ claims = record {
     one-runner = one-runner;
     closed-steps = closed-steps;
     open-steps = open-steps;
+    back-tick = back-tick;
+    back-ticks = back-ticks;
+    back-after-step = back-after-step;
+    step-after-back = step-after-back;
+    backs-after-steps = backs-after-steps;
+    steps-after-backs = steps-after-backs;
     written-accepted = written-accepted;
     written-again = written-again;
     accepted-output = accepted-output;
@@ -67,6 +77,7 @@ claims = record {
     free-pair-unbent = free-pair-unbent;
     answers-tried = answers-tried;
     sheet-tried = sheet-tried;
+    moves-tried = moves-tried;
     chord-not-near = chord-not-near;
   };
   demand3 = claim;

@@ -8,6 +8,8 @@ use Rattle.systems.specs.Theorems.{Solvable, Unique, SolutionBounded, PassesNea
 use Rattle.spline.specs.Theorems.{RowGap, RowsFollow, SplineExists, OneCurve, BendsNear, FreePairZeros, BendsBounded, PositionSharp, PositionNear}
 use Rattle.layout.specs.Theorems.{CourseInBounds, LaidOutNear}
 use Rattle.runner.specs.Theorems.{TickStands, OneRunner, ClosedSteps, OpenSteps, StepBefore}
+use Rattle.runner.specs.Restored.{BackBehind, BackTick, BackTicks, BackAfterStep, StepAfterBack, BacksAfterSteps, StepsAfterBacks}
+use Rattle.runner.specs.Worked.{MovesTried}
 use Rattle.place.specs.Theorems.{LegEndsMet, WaypointMetAtTick, WaypointMetByRunner, TickIsRunner}
 use Rattle.station.specs.Claim.{Claim, OwnLaid}
 use Rattle.courses.specs.Starred.{StarredRight}
@@ -36,6 +38,8 @@ pub record Demand2 : Type 0 where
   pub longest : Longest
   -- N13, K7: landed is said at the last tick alone
   pub step-before : StepBefore
+  -- N15: start is said at the first tick alone
+  pub back-behind : BackBehind
   -- A4, A5: the place by tick is the place of the tick's runner
   pub tick-is-runner : TickIsRunner
   -- R6
@@ -54,6 +58,15 @@ pub record Demand2 : Type 0 where
   pub closed-steps : ClosedSteps
   -- M5
   pub open-steps : OpenSteps
+  -- M7
+  pub back-tick : BackTick
+  pub back-ticks : BackTicks
+  -- M8
+  pub back-after-step : BackAfterStep
+  pub step-after-back : StepAfterBack
+  -- M9
+  pub backs-after-steps : BacksAfterSteps
+  pub steps-after-backs : StepsAfterBacks
   -- G5
   pub written-accepted : WrittenAccepted
   -- G6
@@ -76,6 +89,8 @@ pub record Demand2 : Type 0 where
   -- W12
   pub answers-tried : AnswersTried
   pub sheet-tried : SheetTried
+  -- W13
+  pub moves-tried : MovesTried
   -- K4, K8: zeros in place of bend numbers fail on tenfold A
   pub chord-not-near : ChordNotNear
 

@@ -14,6 +14,7 @@ use Rattle.writer.specs.Writing.{writtenInto}
 use Rattle.layout.specs.Layout.{layOut, laidOut}
 use Rattle.runner.specs.Ticks.{runnerAtTick}
 use Rattle.runner.specs.Steps.{stepped, onward}
+use Rattle.runner.specs.Backs.{backed, backward}
 use Rattle.runner.specs.declared.Runner.{Runner}
 use Rattle.place.specs.Places.{placeAtTick, placeOfRunner}
 
@@ -24,6 +25,7 @@ pub record PassedOn (s : List ℕ) (q : Refusal) : Type 0 where
   pub by-runner : (list : List ℤ) (r : Runner) → placeOfRunner s list r ≡ refused q
   pub from-tick : (t : ℕ) → runnerAtTick s t ≡ refused q
   pub step : (r : Runner) → stepped s r ≡ refused q
+  pub back : (r : Runner) → backed s r ≡ refused q
 
 abbrev pub RefusalPassedOn : Type 0
 RefusalPassedOn = (s : List ℕ) (q : Refusal) → readSheet s ≡ Refused q → PassedOn s q
@@ -32,9 +34,9 @@ RefusalPassedOn = (s : List ℕ) (q : Refusal) → readSheet s ≡ Refused q →
 abbrev pub RefusedKeepsList : Type 0
 RefusedKeepsList = (s : List ℕ) (list : List ℤ) → ¬ (layOut s (length list) .number ≡ 0) → laidOut s list ≡ list
 
--- .. a refused step the record ..
+-- .. a refused step and a refused back the record ..
 abbrev pub RefusedKeepsRecord : Type 0
-RefusedKeepsRecord = (s : List ℕ) (r : Runner) → ¬ (stepped s r .number ≡ 0) → onward s r ≡ r
+RefusedKeepsRecord = (s : List ℕ) (r : Runner) → (¬ (stepped s r .number ≡ 0) → onward s r ≡ r) × (¬ (backed s r .number ≡ 0) → backward s r ≡ r)
 
 -- .. and a refused writing the slice
 abbrev pub RefusedKeepsSlice : Type 0
