@@ -57,8 +57,9 @@ static uint64_t fly_by_tick(const struct station_course *course)
 }
 
 /* The same places by a runner that is moved on from the first waypoint; counts the ticks at which both agree. */
-static uint64_t fly_by_runner(const struct station_course *course, struct station_runner *runner, uint64_t *same)
+static uint64_t fly_by_runner(const struct station_course *course, struct station_runner *runner)
 {
+    uint64_t same = 0;
     for (uint64_t tick = 0; tick <= course->ticks; tick++) {
         struct station_place by_tick = {0, 0, 0}, by_runner = {0, 0, 0};
         uint64_t answer = tick == 0 ? station_runner_at_tick_into(sheet, sheet_length, 0, runner)
@@ -70,18 +71,44 @@ static uint64_t fly_by_runner(const struct station_course *course, struct statio
         if (answer != STATION_DONE)
             return answer;
         if (by_tick.north == by_runner.north && by_tick.east == by_runner.east && by_tick.up == by_runner.up)
-            *same += 1;
+            same += 1;
     }
+    printf("by runner: %" PRIu64 " of %" PRIu64 " places the same\n", same, course->ticks + 1);
     return STATION_DONE;
 }
 
-/* Calls that an open course refuses: a step past its end, a tick past its end; and a sheet that nobody accepts. */
+/* Where a runner stands. */
+static uint64_t tell_place(const char *what, struct station_runner runner)
+{
+    struct station_place place = {0, 0, 0};
+    uint64_t answer = station_place_of_runner_into(sheet, sheet_length, list, STATION_LONGEST_LIST, runner, &place);
+    if (answer == STATION_DONE)
+        printf("%s: %" PRId64 " %" PRId64 " %" PRId64 "\n", what, place.north, place.east, place.up);
+    return answer;
+}
+
+/* A gust took the drone off its way: it goes back by a tick and comes again, to where it was (M8). */
+static uint64_t come_again(struct station_runner *runner)
+{
+    uint64_t answer = station_back_runner(sheet, sheet_length, runner);
+    if (answer == STATION_DONE)
+        answer = tell_place("after a gust, back by a tick", *runner);
+    if (answer == STATION_DONE)
+        answer = station_step_runner(sheet, sheet_length, runner);
+    if (answer == STATION_DONE)
+        answer = tell_place("and on again", *runner);
+    return answer;
+}
+
+/* Calls that an open course refuses: a step or a tick past its end, a tick back from its start; and a sheet that nobody accepts. */
 static void show_refusals(const struct station_course *course, struct station_runner *runner)
 {
     struct station_place place;
     struct station_course other;
+    struct station_runner first = {0, 0};
     tell("one step more", station_step_runner(sheet, sheet_length, runner));
     tell("one tick more", station_place_at_tick_into(sheet, sheet_length, list, STATION_LONGEST_LIST, course->ticks + 1, &place));
+    tell("back from the start", station_back_runner(sheet, sheet_length, &first));
     sheet[8] = 0;
     sheet[9] = 0;
     tell("with a first leg of 0 ticks", station_read_into(sheet, sheet_length, &other));
@@ -92,7 +119,6 @@ int main(int argc, char **argv)
     static const char *const kinds[] = {"free", "held", "closed"};
     struct station_course course = {0, 0, 0};
     struct station_runner runner = {0, 0};
-    uint64_t same = 0;
 
     if (argc > 2) {
         fprintf(stderr, "usage: fly [FILE]\n");
@@ -113,12 +139,13 @@ int main(int argc, char **argv)
     if (answer == STATION_DONE)
         answer = fly_by_tick(&course);
     if (answer == STATION_DONE)
-        answer = fly_by_runner(&course, &runner, &same);
+        answer = fly_by_runner(&course, &runner);
+    if (answer == STATION_DONE)
+        answer = come_again(&runner);
     if (answer != STATION_DONE) {
         tell("the sheet", answer);
         return 1;
     }
-    printf("by runner: %" PRIu64 " of %" PRIu64 " places the same\n", same, course.ticks + 1);
     show_refusals(&course, &runner);
     return 0;
 }

@@ -10,8 +10,8 @@
  *
  * A slice is a pointer, followed by how many elements there are. Any bytes and numbers may stand in it (D1). The caller owes that
  *   - its pointer is never null, even for no elements, is aligned as its type wants, and reaches over all the elements;
- *   - what a call writes (out; list when laying out; the runner of a step; the sheet when writing) shares no memory with another slice of
- *     that call;
+ *   - what a call writes (out; list when laying out; the runner of a step or a back; the sheet when writing) shares no memory with
+ *     another slice of that call;
  *   - no other thread writes a slice during the call.
  * Results fill out from its start, and nothing after them is touched. An out that is too short stays as it was although the answer is the
  * same: the functions over structs, further down, cannot be called with a short out.
@@ -20,8 +20,8 @@
  * [measured]
  *   format:           elf64-x86-64, for Linux (System V calls)
  *   outside symbols:  memset
- *   code:             5002 bytes with constants, data 0, zeroed data 0
- *   deepest stack:    256 bytes (read 136, lay_out 256, place_at_tick 248, place_of_runner 248, runner_at_tick 152, step 152, write 56)
+ *   code:             5292 bytes with constants, data 0, zeroed data 0
+ *   deepest stack:    256 bytes (read 136, lay_out 256, place_at_tick 248, place_of_runner 248, runner_at_tick 152, step 152, back 152, write 56)
  * [/measured]
  */
 #ifndef STATION_H
@@ -33,9 +33,9 @@
 /* The version of this header and its library. MAJOR moves where a correct caller may have to change, MINOR where functions or numbers are
  * added. */
 #define STATION_VERSION_MAJOR 1
-#define STATION_VERSION_MINOR 1
+#define STATION_VERSION_MINOR 2
 #define STATION_VERSION_PATCH 0
-#define STATION_VERSION "1.1.0"
+#define STATION_VERSION "1.2.0"
 
 /* Asks gcc and clang to warn where an answer is dropped or a null pointer is handed over; nothing to other compilers. */
 #if defined(__GNUC__)
@@ -64,7 +64,8 @@ enum {
     STATION_ADRIFT = 11,  /* N11: no such leg, or the offset is beyond it */
     STATION_BEND = 12,    /* N12: at an end of the leg, a bend number over 2^37 in size */
     STATION_LANDED = 13,  /* N13: the runner has come to the end of an open course */
-    STATION_PAGE = 14     /* N14: the slice is shorter than the sheet to be written into it */
+    STATION_PAGE = 14,    /* N14: the slice is shorter than the sheet to be written into it */
+    STATION_START = 15    /* N15: the runner stands at the first tick of an open course */
 };
 
 /* The kinds of ends (S4). */
@@ -93,6 +94,10 @@ STATION_CHECKED uint64_t station_runner_at_tick(const uint8_t *sheet, size_t she
 
 /* Moves a runner (leg, offset) on by a tick where it lies (M2). Tests 1-8, 11, 13 (A7). Fewer than two numbers are no runner: 11. */
 STATION_CHECKED uint64_t station_step(const uint8_t *sheet, size_t sheet_length, uint64_t *runner, size_t runner_length);
+
+/* Moves a runner (leg, offset) back by a tick where it lies (M6), so that it undoes a step, and a step undoes it (M8). Tests 1-8, 11, 15
+ * (A12). Fewer than two numbers are no runner: 11. */
+STATION_CHECKED uint64_t station_back(const uint8_t *sheet, size_t sheet_length, uint64_t *runner, size_t runner_length);
 
 /* Writes a sheet at the front of the slice `sheet`, whose bytes behind it stay, from lists in the sheet's order (G1): the legs; north, east
  * and up of each waypoint in turn; the slopes, six on a held course and none on others. N is a third of the count of waypoint numbers,
@@ -196,6 +201,18 @@ STATION_CHECKED static inline uint64_t station_step_runner(const uint8_t *sheet,
     return answer;
 }
 
+/* station_back, on a struct. */
+STATION_CHECKED static inline uint64_t station_back_runner(const uint8_t *sheet, size_t sheet_length, struct station_runner *runner)
+{
+    uint64_t record[2] = {runner->leg, runner->offset};
+    uint64_t answer = station_back(sheet, sheet_length, record, 2);
+    if (answer == STATION_DONE) {
+        runner->leg = record[0];
+        runner->offset = record[1];
+    }
+    return answer;
+}
+
 /* station_write, from a struct. The sheet's length goes into *length where it is not refused. */
 STATION_CHECKED static inline uint64_t station_write_lists(const struct station_lists *lists, uint8_t *sheet, size_t sheet_length,
                                                            size_t *length)
@@ -248,6 +265,8 @@ static inline const char *station_word(uint64_t answer)
         return "landed";
     case STATION_PAGE:
         return "page";
+    case STATION_START:
+        return "start";
     default:
         return "unknown";
     }

@@ -10,7 +10,7 @@
 #include <string.h>
 #include <ucontext.h>
 
-enum { STACK = 1 << 18, CALLS = 7, ADDRESS = 8 };
+enum { STACK = 1 << 18, CALLS = 8, ADDRESS = 8 };
 
 /* What is lent to a call: a sheet, the lists it is made from, room for one more. */
 static uint8_t sheet[STATION_LONGEST_SHEET + 1];
@@ -23,10 +23,10 @@ static int64_t list[STATION_LONGEST_LIST];
 static uint64_t tick, words[3];
 static int64_t place[3];
 
-static const char *const names[CALLS] = {"read", "lay_out", "place_at_tick", "place_of_runner", "runner_at_tick", "step", "write"};
+static const char *const names[CALLS] = {"read", "lay_out", "place_at_tick", "place_of_runner", "runner_at_tick", "step", "back", "write"};
 static uint64_t deepest[CALLS];
 
-/* The seven calls, or functions of the same types that do nothing. */
+/* The eight calls, or functions of the same types that do nothing. */
 struct calls {
     uint64_t (*read)(const uint8_t *, size_t, uint64_t *, size_t);
     uint64_t (*lay_out)(const uint8_t *, size_t, int64_t *, size_t);
@@ -34,12 +34,13 @@ struct calls {
     uint64_t (*place_of_runner)(const uint8_t *, size_t, const int64_t *, size_t, uint64_t, uint64_t, int64_t *, size_t);
     uint64_t (*runner_at_tick)(const uint8_t *, size_t, uint64_t, uint64_t *, size_t);
     uint64_t (*step)(const uint8_t *, size_t, uint64_t *, size_t);
+    uint64_t (*back)(const uint8_t *, size_t, uint64_t *, size_t);
     uint64_t (*write)(uint64_t, const uint64_t *, size_t, const int64_t *, size_t, const int64_t *, size_t, uint8_t *, size_t, uint64_t *,
                       size_t);
 };
 
 static const struct calls library = {station_read,           station_lay_out, station_place_at_tick, station_place_of_runner,
-                                     station_runner_at_tick, station_step,    station_write};
+                                     station_runner_at_tick, station_step,    station_back,          station_write};
 
 static uint64_t no_read(const uint8_t *s, size_t n, uint64_t *out, size_t m)
 {
@@ -72,7 +73,8 @@ static uint64_t no_write(uint64_t k, const uint64_t *l, size_t a, const int64_t 
     return (void)k, (void)l, (void)a, (void)w, (void)b, (void)s, (void)c, (void)p, (void)n, (void)out, (void)m, 0;
 }
 
-static const struct calls nothing = {no_read, no_lay_out, no_place_at_tick, no_place_of_runner, no_runner_at_tick, no_read, no_write};
+static const struct calls nothing = {no_read,           no_lay_out, no_place_at_tick, no_place_of_runner,
+                                     no_runner_at_tick, no_read,    no_read,          no_write};
 
 /* Which call is made, and its answer; volatile, so that the compiler keeps one call site for both sets. */
 static const struct calls *volatile chosen;
@@ -102,6 +104,9 @@ static void make_call(void)
     case 5:
         answer = c->step(sheet, sheet_length, words, 2);
         break;
+    case 6:
+        answer = c->back(sheet, sheet_length, words, 2);
+        break;
     default:
         answer = c->write(lists.kind, lists.legs, lists.legs_length, lists.waypoints, lists.waypoints_length, lists.slopes,
                           lists.slopes_length, page, sizeof page, words, 1);
@@ -128,17 +133,17 @@ static size_t untouched(const struct calls *which, uint8_t paint)
     return left;
 }
 
-/* Makes all seven calls on the sheet and lists that are in place, at a tick, and keeps the deepest of each; the answers have to be
- * `wanted`. */
-static void measure(uint64_t at, uint64_t wanted)
+/* Makes all eight calls on the sheet and lists that are in place, at a tick and of a runner, and keeps the deepest of each; the answers
+ * have to be `wanted`. */
+static void measure(uint64_t at, uint64_t leg, uint64_t offset, uint64_t wanted)
 {
     static const uint8_t paints[] = {0xa5, 0x5a};
-    uint64_t start[2] = {0, 0};
     for (int i = 0; i < CALLS; i++)
         for (size_t p = 0; p < sizeof paints; p++) {
             call = i;
             tick = at;
-            memcpy(words, start, sizeof start);
+            words[0] = leg;
+            words[1] = offset;
             size_t empty = untouched(&nothing, paints[p]);
             size_t full = untouched(&library, paints[p]);
             if (answer != wanted || full == 0 || full > empty) {
@@ -198,13 +203,17 @@ int main(void)
         uint64_t ticks = make_lists(kind, 512);
         make_sheet();
         for (uint64_t at = 0; at <= ticks; at += ticks / 4)
-            measure(at, STATION_DONE);
+            measure(at, 0, 1, STATION_DONE);
         make_lists(kind, 3);
         make_sheet();
-        measure(1, STATION_DONE);
+        measure(1, 0, 1, STATION_DONE);
+        /* on to the next leg or to the end, back to the leg before */
+        measure(1, 1, 0, STATION_DONE);
+        if (kind == STATION_CLOSED)
+            measure(1, 0, 0, STATION_DONE);
         legs[0] = 0;
         make_sheet();
-        measure(1, STATION_LEG);
+        measure(1, 0, 1, STATION_LEG);
     }
     for (int i = 0; i < CALLS; i++)
         printf("%s %llu\n", names[i], (unsigned long long)deepest[i]);

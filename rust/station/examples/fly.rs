@@ -61,13 +61,30 @@ fn fly_by_runner(sheet: &[u8], list: &[i64], course: &Course) -> Result<(Runner,
     Ok((runner, same))
 }
 
+/// Where a runner stands.
+fn tell_place(what: &str, sheet: &[u8], list: &[i64], runner: Runner) -> Result<(), Refusal> {
+    let place = station::place_of_runner(sheet, list, runner)?;
+    println!("{what}: {} {} {}", place.north, place.east, place.up);
+    Ok(())
+}
+
+/// A gust took the drone off its way: it goes back by a tick and comes again, to where it was (M8).
+fn come_again(sheet: &[u8], list: &[i64], runner: &mut Runner) -> Result<(), Refusal> {
+    station::back(sheet, runner)?;
+    tell_place("after a gust, back by a tick", sheet, list, *runner)?;
+    station::step(sheet, runner)?;
+    tell_place("and on again", sheet, list, *runner)
+}
+
 fn fly(sheet: &mut [u8]) -> Result<(), Refusal> {
     let mut list = [0; LONGEST_LIST];
     let course = fly_by_tick(sheet, &mut list)?;
     let (mut runner, same) = fly_by_runner(sheet, &list, &course)?;
     println!("by runner: {same} of {} places the same", course.ticks + 1);
+    come_again(sheet, &list, &mut runner)?;
     tell("one step more", station::step(sheet, &mut runner));
     tell("one tick more", station::place_at_tick(sheet, &list, course.ticks + 1));
+    tell("back from the start", station::back(sheet, &mut Runner::default()));
     sheet[8..10].fill(0);
     tell("with a first leg of 0 ticks", station::read(sheet));
     Ok(())

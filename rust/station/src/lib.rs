@@ -2,8 +2,8 @@
 //! other crates. N6, A4 and the like are clauses of the repository's `docs/REQUIREMENTS.md`.
 //!
 //! A *sheet* is a course as bytes. [`read`] tells what it holds, [`lay_out`] makes the bend numbers that the places need, and then
-//! [`place_at_tick`] tells where the course is at each tick. A [`Runner`] does the same for a drone that moves on tick by tick. [`write()`]
-//! makes a sheet from lists of numbers. Ten ticks are a second, and lengths are whole millimetres.
+//! [`place_at_tick`] tells where the course is at each tick. A [`Runner`] does the same for a drone that moves on, or back, tick by tick.
+//! [`write()`] makes a sheet from lists of numbers. Ten ticks are a second, and lengths are whole millimetres.
 //!
 //! Every function takes any bytes, lists and numbers (D1). What does not fit is answered with a [`Refusal`], and then nothing that was
 //! lent has changed (A9).
@@ -25,7 +25,7 @@
 //!
 //! `build.rs` links `libstation.a` from the folder that the variable `STATION_LIBRARY_DIR` names, or from `target/staticlib` of the
 //! repository that this crate is part of, where `tools/archive` makes it. The archive is for x86-64. Without the default feature `link`
-//! nothing is linked: the program then brings the seven functions of [`raw`] itself.
+//! nothing is linked: the program then brings the eight functions of [`raw`] itself.
 
 #![no_std]
 #![deny(missing_docs)]
@@ -235,6 +235,28 @@ pub fn runner_at_tick(sheet: &[u8], tick: u64) -> Result<Runner, Refusal> {
 pub fn step(sheet: &[u8], runner: &mut Runner) -> Result<(), Refusal> {
     let mut record = [runner.leg, runner.offset];
     done(raw::step(sheet, &mut record))?;
+    *runner = Runner { leg: record[0], offset: record[1] };
+    Ok(())
+}
+
+/// Moves a runner back by a tick (M6), so that it undoes a step, and a step undoes it (M8). Tests 1-8, 11, 15 (A12).
+///
+/// ```
+/// use station::{COURSE_A, Refusal, Runner};
+///
+/// // from the second leg's start to the first leg's last tick, and on to the first tick
+/// let mut runner = Runner { leg: 1, offset: 0 };
+/// station::back(&COURSE_A, &mut runner)?;
+/// assert_eq!(runner, Runner { leg: 0, offset: 1 });
+/// station::back(&COURSE_A, &mut runner)?;
+/// assert_eq!(station::back(&COURSE_A, &mut runner), Err(Refusal::Start));
+/// assert_eq!(runner, Runner::default());
+/// # Ok::<(), station::Refusal>(())
+/// ```
+#[inline]
+pub fn back(sheet: &[u8], runner: &mut Runner) -> Result<(), Refusal> {
+    let mut record = [runner.leg, runner.offset];
+    done(raw::back(sheet, &mut record))?;
     *runner = Runner { leg: record[0], offset: record[1] };
     Ok(())
 }

@@ -1,4 +1,4 @@
-//! The C boundary (`include/station.h`): the seven functions as the archive has them, and the same over slices, for the rest of the crate.
+//! The C boundary (`include/station.h`): the eight functions as the archive has them, and the same over slices, for the rest of the crate.
 //! All `unsafe` code of the crate is here.
 
 // SAFETY: names and types are those of include/station.h.
@@ -32,6 +32,8 @@ unsafe extern "C" {
     pub fn station_runner_at_tick(sheet: *const u8, sheet_length: usize, tick: u64, out: *mut u64, out_length: usize) -> u64;
     /// Moves `runner`, a leg and an offset, on by a tick.
     pub fn station_step(sheet: *const u8, sheet_length: usize, runner: *mut u64, runner_length: usize) -> u64;
+    /// Moves `runner`, a leg and an offset, back by a tick.
+    pub fn station_back(sheet: *const u8, sheet_length: usize, runner: *mut u64, runner_length: usize) -> u64;
     /// A sheet from its lists into `sheet`, its length into `out`.
     pub fn station_write(
         kind: u64,
@@ -85,6 +87,12 @@ pub(crate) fn runner_at_tick(sheet: &[u8], tick: u64, out: &mut [u64; 2]) -> u64
 pub(crate) fn step(sheet: &[u8], runner: &mut [u64; 2]) -> u64 {
     // SAFETY: pointers and lengths of two borrowed slices, `runner` borrowed mutably.
     unsafe { station_step(sheet.as_ptr(), sheet.len(), runner.as_mut_ptr(), runner.len()) }
+}
+
+#[inline]
+pub(crate) fn back(sheet: &[u8], runner: &mut [u64; 2]) -> u64 {
+    // SAFETY: pointers and lengths of two borrowed slices, `runner` borrowed mutably.
+    unsafe { station_back(sheet.as_ptr(), sheet.len(), runner.as_mut_ptr(), runner.len()) }
 }
 
 #[inline]

@@ -43,6 +43,8 @@ pub enum Refusal {
     Landed,
     /// N14: the slice is shorter than the sheet to be written into it.
     Page,
+    /// N15: the runner stands at the first tick of an open course.
+    Start,
     /// A number that this crate does not know, from a library newer than it. The library of this version has no such answer.
     Unknown(u64),
 }
@@ -75,6 +77,7 @@ impl Refusal {
             12 => Refusal::Bend,
             13 => Refusal::Landed,
             14 => Refusal::Page,
+            15 => Refusal::Start,
             _ => Refusal::Unknown(number),
         })
     }
@@ -106,6 +109,7 @@ impl Refusal {
             Refusal::Bend => (12, "bend"),
             Refusal::Landed => (13, "landed"),
             Refusal::Page => (14, "page"),
+            Refusal::Start => (15, "start"),
             Refusal::Unknown(number) => (number, "unknown"),
         }
     }
