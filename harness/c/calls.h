@@ -1,4 +1,4 @@
-/* The seven calls of include/station.h over nine parts, which base.c and careful.c write each in its own way. The file that includes this
+/* The eight calls of include/station.h over nine parts, which base.c and careful.c write each in its own way. The file that includes this
  * one says by NAME what its calls are called. ROOM and NO_RUNNER are the answers where a lent slice is too short, from src/room.rs;
  * nothing is written into it then. */
 #include "station.h"
@@ -131,6 +131,27 @@ uint64_t NAME(step)(const uint8_t *sheet, size_t sheet_length, uint64_t *runner,
         runner[0] = last ? 0 : runner[0] + 1;
         runner[1] = 0;
     }
+    return STATION_DONE;
+}
+
+uint64_t NAME(back)(const uint8_t *sheet, size_t sheet_length, uint64_t *runner, size_t runner_length)
+{
+    struct course c;
+    uint64_t answer = read_course(sheet, sheet_length, &c);
+    if (answer)
+        return answer;
+    if (runner_length < 2)
+        return NO_RUNNER;
+    if (is_adrift(&c, runner[0], runner[1]))
+        return STATION_ADRIFT;
+    if (runner[1] > 0) {
+        runner[1] -= 1;
+        return STATION_DONE;
+    }
+    if (runner[0] == 0 && c.kind != STATION_CLOSED)
+        return STATION_START;
+    runner[0] = runner[0] == 0 ? c.leg_count - 1 : runner[0] - 1;
+    runner[1] = leg_length(&c, runner[0]) - 1;
     return STATION_DONE;
 }
 

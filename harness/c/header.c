@@ -12,7 +12,7 @@ struct entry {
 static const struct entry entries[] = {
     ENTRY(DONE), ENTRY(TORN), ENTRY(EDITION), ENTRY(ENDS), ENTRY(POINTS), ENTRY(SIZE), ENTRY(LEG),
     ENTRY(REACH), ENTRY(SLOPE), ENTRY(SHELF), ENTRY(PAST), ENTRY(ADRIFT), ENTRY(BEND), ENTRY(LANDED),
-    ENTRY(PAGE), ENTRY(FREE), ENTRY(HELD), ENTRY(CLOSED), ENTRY(LONGEST_SHEET), ENTRY(LONGEST_LIST),
+    ENTRY(PAGE), ENTRY(START), ENTRY(FREE), ENTRY(HELD), ENTRY(CLOSED), ENTRY(LONGEST_SHEET), ENTRY(LONGEST_LIST),
 };
 
 /* The i-th enumerator, or 0 past the last. */
@@ -27,7 +27,7 @@ const char *header_word(uint64_t number)
     return station_word(number);
 }
 
-/* The seven calls by the header's functions over structs, in the form of the calls themselves, so that evidence can compare them alike. The
+/* The eight calls by the header's functions over structs, in the form of the calls themselves, so that evidence can compare them alike. The
  * structs hold before a call what out holds. Where out is too short for a struct, and for laying out, there is only the call itself. */
 
 uint64_t structs_read(const uint8_t *sheet, size_t n, uint64_t *out, size_t m)
@@ -93,6 +93,17 @@ uint64_t structs_step(const uint8_t *sheet, size_t n, uint64_t *runner, size_t m
         return station_step(sheet, n, runner, m);
     struct station_runner record = {runner[0], runner[1]};
     uint64_t answer = station_step_runner(sheet, n, &record);
+    runner[0] = record.leg;
+    runner[1] = record.offset;
+    return answer;
+}
+
+uint64_t structs_back(const uint8_t *sheet, size_t n, uint64_t *runner, size_t m)
+{
+    if (m < 2)
+        return station_back(sheet, n, runner, m);
+    struct station_runner record = {runner[0], runner[1]};
+    uint64_t answer = station_back_runner(sheet, n, &record);
     runner[0] = record.leg;
     runner[1] = record.offset;
     return answer;

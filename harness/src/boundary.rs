@@ -6,7 +6,7 @@ use crate::room::{NO_RUNNER, ROOM};
 /// `station_write`: the kind, three lists, the page, the out.
 type Write = unsafe extern "C" fn(u64, *const u64, usize, *const i64, usize, *const i64, usize, *mut u8, usize, *mut u64, usize) -> u64;
 
-/// One implementation of the seven calls.
+/// One implementation of the eight calls.
 pub struct Calls {
     pub name: &'static str,
     pub read: unsafe extern "C" fn(*const u8, usize, *mut u64, usize) -> u64,
@@ -15,6 +15,7 @@ pub struct Calls {
     pub place_of_runner: unsafe extern "C" fn(*const u8, usize, *const i64, usize, u64, u64, *mut i64, usize) -> u64,
     pub runner_at_tick: unsafe extern "C" fn(*const u8, usize, u64, *mut u64, usize) -> u64,
     pub step: unsafe extern "C" fn(*const u8, usize, *mut u64, usize) -> u64,
+    pub back: unsafe extern "C" fn(*const u8, usize, *mut u64, usize) -> u64,
     pub write: Write,
 }
 
@@ -34,7 +35,8 @@ fn parts<T>(slice: &[T]) -> (*const T, usize) {
 }
 
 macro_rules! c_calls {
-    ($($read:ident $lay_out:ident $place_at_tick:ident $place_of_runner:ident $runner_at_tick:ident $step:ident $write:ident;)*) => {
+    ($($read:ident $lay_out:ident $place_at_tick:ident $place_of_runner:ident
+       $runner_at_tick:ident $step:ident $back:ident $write:ident;)*) => {
         extern "C" { $(
             fn $read(sheet: *const u8, n: usize, out: *mut u64, m: usize) -> u64;
             fn $lay_out(sheet: *const u8, n: usize, list: *mut i64, m: usize) -> u64;
@@ -44,6 +46,7 @@ macro_rules! c_calls {
             ) -> u64;
             fn $runner_at_tick(sheet: *const u8, n: usize, tick: u64, out: *mut u64, m: usize) -> u64;
             fn $step(sheet: *const u8, n: usize, runner: *mut u64, m: usize) -> u64;
+            fn $back(sheet: *const u8, n: usize, runner: *mut u64, m: usize) -> u64;
             fn $write(
                 kind: u64, legs: *const u64, l: usize, waypoints: *const i64, w: usize, slopes: *const i64, s: usize,
                 sheet: *mut u8, n: usize, out: *mut u64, m: usize,
@@ -53,10 +56,14 @@ macro_rules! c_calls {
 }
 
 c_calls! {
-    station_read station_lay_out station_place_at_tick station_place_of_runner station_runner_at_tick station_step station_write;
-    base_read base_lay_out base_place_at_tick base_place_of_runner base_runner_at_tick base_step base_write;
-    careful_read careful_lay_out careful_place_at_tick careful_place_of_runner careful_runner_at_tick careful_step careful_write;
-    structs_read structs_lay_out structs_place_at_tick structs_place_of_runner structs_runner_at_tick structs_step structs_write;
+    station_read station_lay_out station_place_at_tick station_place_of_runner
+        station_runner_at_tick station_step station_back station_write;
+    base_read base_lay_out base_place_at_tick base_place_of_runner
+        base_runner_at_tick base_step base_back base_write;
+    careful_read careful_lay_out careful_place_at_tick careful_place_of_runner
+        careful_runner_at_tick careful_step careful_back careful_write;
+    structs_read structs_lay_out structs_place_at_tick structs_place_of_runner
+        structs_runner_at_tick structs_step structs_back structs_write;
 }
 
 /// The station's library.
@@ -68,6 +75,7 @@ pub const LIBRARY: Calls = Calls {
     place_of_runner: station_place_of_runner,
     runner_at_tick: station_runner_at_tick,
     step: station_step,
+    back: station_back,
     write: station_write,
 };
 
@@ -80,6 +88,7 @@ pub const BASE: Calls = Calls {
     place_of_runner: base_place_of_runner,
     runner_at_tick: base_runner_at_tick,
     step: base_step,
+    back: base_back,
     write: base_write,
 };
 
@@ -92,6 +101,7 @@ pub const CAREFUL: Calls = Calls {
     place_of_runner: careful_place_of_runner,
     runner_at_tick: careful_runner_at_tick,
     step: careful_step,
+    back: careful_back,
     write: careful_write,
 };
 
@@ -104,10 +114,11 @@ pub const STRUCTS: Calls = Calls {
     place_of_runner: structs_place_of_runner,
     runner_at_tick: structs_runner_at_tick,
     step: structs_step,
+    back: structs_back,
     write: structs_write,
 };
 
-/// Any of the seven calls with its numbers, and a writing's lists.
+/// Any of the eight calls with its numbers, and a writing's lists.
 #[derive(Clone, Debug)]
 pub enum Call {
     Read,
@@ -116,6 +127,7 @@ pub enum Call {
     PlaceOfRunner { leg: u64, offset: u64 },
     RunnerAtTick { tick: u64 },
     Step,
+    Back,
     Write(Lists),
 }
 
@@ -131,6 +143,7 @@ pub struct Lent {
 }
 
 /// The memory that a call is made on: the sheet, a writing's lists, and what is lent.
+#[derive(Default)]
 pub struct Memory<'a> {
     pub sheet: &'a [u8],
     pub legs: &'a [u64],
@@ -143,16 +156,17 @@ pub struct Memory<'a> {
 }
 
 /// The names of the calls, by [`Call::index`].
-pub const NAMES: [&str; 7] = ["read", "lay_out", "place_at_tick", "place_of_runner", "runner_at_tick", "step", "write"];
+pub const NAMES: [&str; 8] = ["read", "lay_out", "place_at_tick", "place_of_runner", "runner_at_tick", "step", "back", "write"];
 
-/// A2 to A7, A11: the numbers that each call tests, by [`Call::index`]; and the answers where what is lent is too short.
-pub const TESTS: [&[u64]; 7] = [
+/// A2 to A7, A12, A11: the numbers that each call tests, by [`Call::index`]; and the answers where what is lent is too short.
+pub const TESTS: [&[u64]; 8] = [
     &[1, 2, 3, 4, 5, 6, 7, 8, ROOM],
     &[1, 2, 3, 4, 5, 6, 7, 8, 9],
     &[1, 2, 3, 4, 5, 6, 7, 8, 9, 10, 12, ROOM],
     &[1, 2, 3, 4, 5, 6, 7, 8, 9, 11, 12, ROOM],
     &[1, 2, 3, 4, 5, 6, 7, 8, 10, ROOM],
     &[1, 2, 3, 4, 5, 6, 7, 8, 11, 13, NO_RUNNER],
+    &[1, 2, 3, 4, 5, 6, 7, 8, 11, 15, NO_RUNNER],
     &[3, 4, 5, 6, 7, 8, 14, ROOM],
 ];
 
@@ -165,7 +179,8 @@ impl Call {
             Call::PlaceOfRunner { .. } => 3,
             Call::RunnerAtTick { .. } => 4,
             Call::Step => 5,
-            Call::Write(_) => 6,
+            Call::Back => 6,
+            Call::Write(_) => 7,
         }
     }
 
@@ -175,7 +190,7 @@ impl Call {
             Call::Read => lent.words.len() < 3,
             Call::LayOut => false,
             Call::PlaceAtTick { .. } | Call::PlaceOfRunner { .. } => lent.place.len() < 3,
-            Call::RunnerAtTick { .. } | Call::Step => lent.words.len() < 2,
+            Call::RunnerAtTick { .. } | Call::Step | Call::Back => lent.words.len() < 2,
             Call::Write(_) => lent.words.is_empty(),
         }
     }
@@ -189,11 +204,8 @@ impl Call {
             Call::PlaceAtTick { tick } => model::place_at_tick(sheet, list, tick).and_then(|found| put(place, &found)),
             Call::PlaceOfRunner { leg, offset } => model::place_of_runner(sheet, list, leg, offset).and_then(|found| put(place, &found)),
             Call::RunnerAtTick { tick } => model::runner_at_tick(sheet, tick).and_then(|(leg, offset)| put(words, &[leg, offset])),
-            // a runner of fewer than two numbers is none: only the sheet is tested
-            Call::Step => match **words {
-                [leg, offset, ..] => model::stepped(sheet, leg, offset).and_then(|(leg, offset)| put(words, &[leg, offset])),
-                _ => model::read(sheet).and(Err(NO_RUNNER)),
-            },
+            Call::Step => moved(sheet, words, model::stepped),
+            Call::Back => moved(sheet, words, model::backed),
             Call::Write(ref lists) => model::write(lists, page).and_then(|length| put(words, &[length as u64])),
         };
         answer.err().unwrap_or(0)
@@ -214,9 +226,18 @@ impl Call {
                 }
                 Call::RunnerAtTick { tick } => (calls.runner_at_tick)(s, n, tick, out, m),
                 Call::Step => (calls.step)(s, n, out, m),
+                Call::Back => (calls.back)(s, n, out, m),
                 Call::Write(Lists { kind, .. }) => calls.write_slices(kind, legs, waypoints, slopes, page, words),
             }
         }
+    }
+}
+
+/// The model's step or back on a lent runner. Fewer than two numbers are none: only the sheet is tested.
+fn moved(sheet: &[u8], words: &mut [u64], by: impl Fn(&[u8], u64, u64) -> Result<(u64, u64), u64>) -> Result<(), u64> {
+    match *words {
+        [leg, offset, ..] => by(sheet, leg, offset).and_then(|(leg, offset)| put(words, &[leg, offset])),
+        _ => model::read(sheet).and(Err(NO_RUNNER)),
     }
 }
 

@@ -21,10 +21,12 @@ pub const ADRIFT: u64 = 11;
 pub const BEND: u64 = 12;
 pub const LANDED: u64 = 13;
 pub const PAGE: u64 = 14;
+pub const START: u64 = 15;
 
-/// The words of N1 to N14, by number; 0 has none.
-pub const WORDS: [&str; 15] =
-    ["", "torn", "edition", "ends", "points", "size", "leg", "reach", "slope", "shelf", "past", "adrift", "bend", "landed", "page"];
+/// The words of N1 to N15, by number; 0 has none.
+pub const WORDS: [&str; 16] = [
+    "", "torn", "edition", "ends", "points", "size", "leg", "reach", "slope", "shelf", "past", "adrift", "bend", "landed", "page", "start",
+];
 
 /// S4.
 #[derive(Clone, Copy, PartialEq, Eq, Debug)]
@@ -367,4 +369,21 @@ pub fn stepped(sheet: &[u8], leg: u64, offset: u64) -> Result<(u64, u64), u64> {
     } else {
         Ok(((leg + 1) % course.legs.len() as u64, 0))
     }
+}
+
+/// A12: the runner one tick back. Found by its tick, from which one is taken, going round on a closed course (M7).
+pub fn backed(sheet: &[u8], leg: u64, offset: u64) -> Result<(u64, u64), u64> {
+    let course = read(sheet)?;
+    if !course.fits(leg, offset) {
+        return Err(ADRIFT);
+    }
+    let ticks = course.ticks();
+    let tick = course.legs[..leg as usize].iter().sum::<i128>() + i128::from(offset);
+    // N15
+    if tick == 0 && !course.closed() {
+        return Err(START);
+    }
+    let before = (tick - 1).rem_euclid(ticks);
+    let (leg, offset) = course.runner(before as u64).expect("a tick of the course");
+    Ok((leg as u64, offset as u64))
 }

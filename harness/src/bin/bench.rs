@@ -166,6 +166,7 @@ enum Call {
     PlaceOfRunner,
     RunnerAtLastTick,
     Step,
+    Back,
     Write,
 }
 
@@ -198,11 +199,14 @@ impl Call {
                 let (s, n) = sheet(k);
                 black_box(unsafe { (calls.runner_at_tick)(s, n, form.ticks[k], numbers.as_mut_ptr(), 2) });
             }),
-            Call::Step => Box::new(move |k| {
-                let (s, n) = sheet(k);
-                let mut runner = form.runners[k];
-                black_box(unsafe { (calls.step)(s, n, runner.as_mut_ptr(), 2) });
-            }),
+            Call::Step | Call::Back => {
+                let call = if matches!(self, Call::Step) { calls.step } else { calls.back };
+                Box::new(move |k| {
+                    let (s, n) = sheet(k);
+                    let mut runner = form.runners[k];
+                    black_box(unsafe { call(s, n, runner.as_mut_ptr(), 2) });
+                })
+            }
             Call::Write => Box::new(move |k| {
                 let Lists { kind, legs, waypoints, slopes } = &form.sources[k];
                 black_box(calls.write_slices(*kind, legs, waypoints, slopes, &mut page, &mut numbers[..1]));
@@ -258,7 +262,7 @@ fn forms(seed: u64) -> ([Form; 2], Form, Vec<[Form; 2]>) {
     (open, three, laid)
 }
 
-/// The seven calls on all forms, and how they grow.
+/// The eight calls on all forms, and how they grow.
 fn time_calls(bench: &mut Bench, [small, large]: &[Form; 2], three: &Form, laid: &[[Form; 2]]) {
     let (mut places, mut writes) = (vec![], vec![]);
     for form in [large, small, three] {
@@ -267,6 +271,7 @@ fn time_calls(bench: &mut Bench, [small, large]: &[Form; 2], three: &Form, laid:
         bench.call("place of a runner", form, Call::PlaceOfRunner);
         bench.call("runner at the last tick", form, Call::RunnerAtLastTick);
         bench.call("step", form, Call::Step);
+        bench.call("back", form, Call::Back);
         writes.push(bench.call("write", form, Call::Write));
     }
     let mut per_pass = vec![];

@@ -19,7 +19,7 @@ pub struct Comparison {
     /// Those of them that would have been done but lacked room for the results.
     pub without_room: u64,
     /// How often each call gave each answer, by [`Call::index`].
-    pub answers: [[u64; 16]; NAMES.len()],
+    pub answers: [[u64; WORDS.len()]; NAMES.len()],
     pub stand: Stand,
     /// The library, and with it its functions over structs and the C files or not.
     pub implementations: &'static [Calls],
@@ -47,7 +47,7 @@ impl Comparison {
             seed,
             calls: 0,
             without_room: 0,
-            answers: [[0; 16]; NAMES.len()],
+            answers: [[0; WORDS.len()]; NAMES.len()],
             stand,
             implementations: &ALL,
             sheet: Fenced::new(1 << 20),
@@ -142,14 +142,18 @@ fn by_wrapper(call: &Call, sheet: &[u8], lent: &mut Lent) -> Result<(), Refusal>
             wrapper::place_of_runner(sheet, &lent.list, [leg, offset]).map(|place| lent.place = place.to_vec())
         }
         Call::RunnerAtTick { tick } => wrapper::runner_at_tick(sheet, tick).map(|runner| lent.words[..2].copy_from_slice(&runner)),
-        Call::Step => {
-            let mut runner = [lent.words[0], lent.words[1]];
-            let answer = wrapper::step(sheet, &mut runner);
-            lent.words[..2].copy_from_slice(&runner);
-            answer
-        }
+        Call::Step => moved(sheet, &mut lent.words, wrapper::step),
+        Call::Back => moved(sheet, &mut lent.words, wrapper::back),
         Call::Write(ref lists) => wrapper::write(lists, &mut lent.page).map(|length| lent.words[0] = length as u64),
     }
+}
+
+/// A step or a back by the wrapper on a lent runner.
+fn moved(sheet: &[u8], words: &mut [u64], by: fn(&[u8], &mut [u64; 2]) -> Result<(), Refusal>) -> Result<(), Refusal> {
+    let mut runner = [words[0], words[1]];
+    let answer = by(sheet, &mut runner);
+    words[..2].copy_from_slice(&runner);
+    answer
 }
 
 /// A sheet's bytes, the first 400 of them.

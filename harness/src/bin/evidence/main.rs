@@ -10,6 +10,7 @@ mod header;
 mod hit;
 mod parts;
 mod sheets;
+mod walks;
 mod worked;
 mod wrapper;
 mod writes;
@@ -32,7 +33,8 @@ pub struct Options {
     pub cases: u64,
     /// The first of them.
     pub first: u64,
-    /// How many steps, nearly, are compared with the runner at the tick; those of the runner on foot are as many times more.
+    /// How many steps, nearly, and how many backs are compared with the runner at the tick; those of the runner on foot are as many times
+    /// more.
     pub steps: u64,
     /// Lend heap blocks in place of fenced memory (for valgrind).
     pub heap: bool,
@@ -65,13 +67,15 @@ fn main() {
     sheets::run(&options, &mut comparison);
     let elimination = distance::by_elimination(&options, &mut comparison);
     let exact = distance::by_exact_spline(&options, &mut comparison);
+    walks::run(&options, &mut comparison);
     years::run(&options, &mut comparison);
 
     let passed = comparison.tally.closed();
-    let steps = [Part::Steps, Part::OpenEnds, Part::OnFoot].map(|part| comparison.tally.compared(part)).iter().sum::<u64>();
+    let moves = [Part::Steps, Part::Backs, Part::OpenEnds, Part::Walks, Part::OnFoot];
+    let moves = moves.map(|part| comparison.tally.compared(part)).iter().sum::<u64>();
     println!(
-        "evidence: {} sheets, {} calls, {steps} steps, bend numbers off by {:.5} of at most 1.125, places by {:.5} mm of at most 1.5: \
-         {} differences, seed {}, {:.0} s",
+        "evidence: {} sheets, {} calls, {moves} steps and backs, bend numbers off by {:.5} of at most 1.125, places by {:.5} mm of at \
+         most 1.5: {} differences, seed {}, {:.0} s",
         options.cases,
         comparison.calls,
         elimination.bend.or(exact.bend),

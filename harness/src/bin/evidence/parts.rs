@@ -38,14 +38,18 @@ pub enum Part {
     FarTicks,
     /// Steps against the runner at the tick.
     Steps,
-    /// Open courses, stepped to the end and on.
+    /// As many backs, against the same, to where the steps began (M9).
+    Backs,
+    /// Open courses, stepped to the end and on, and back to the start and on.
     OpenEnds,
-    /// One runner moved on for ten years.
+    /// Steps and backs in random order against a count (M7, M8).
+    Walks,
+    /// One runner moved on for ten years, and back for one.
     OnFoot,
 }
 
 /// The parts' names, in the order above.
-pub const NAMES: [&str; 19] = [
+pub const NAMES: [&str; 21] = [
     "worked",
     "header",
     "calls",
@@ -63,7 +67,9 @@ pub const NAMES: [&str; 19] = [
     "exact-places",
     "far-ticks",
     "steps",
+    "backs",
     "open-ends",
+    "walks",
     "on-foot",
 ];
 

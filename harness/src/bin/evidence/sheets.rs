@@ -89,9 +89,16 @@ fn on_refused(random: &mut Random, comparison: &mut Comparison, sheet: &[u8]) {
     let (words, place) = (random.below(5), random.below(5));
     let before = lent(random, list, words, place);
     let (tick, leg, offset) = (random.any_size(), random.any_size(), random.any_size());
-    for call in
-        [Call::Read, Call::LayOut, Call::PlaceAtTick { tick }, Call::PlaceOfRunner { leg, offset }, Call::RunnerAtTick { tick }, Call::Step]
-    {
+    let calls = [
+        Call::Read,
+        Call::LayOut,
+        Call::PlaceAtTick { tick },
+        Call::PlaceOfRunner { leg, offset },
+        Call::RunnerAtTick { tick },
+        Call::Step,
+        Call::Back,
+    ];
+    for call in calls {
         try_call(random, comparison, call, sheet, &before);
     }
 }
@@ -135,18 +142,20 @@ fn places(random: &mut Random, comparison: &mut Comparison, sheet: &[u8], course
     try_call(random, comparison, Call::PlaceOfRunner { leg, offset }, sheet, &before);
 }
 
-/// A runner at a tick, and a step.
+/// A runner at a tick, a step, and a back.
 fn runners(random: &mut Random, comparison: &mut Comparison, sheet: &[u8], course: &Course) {
     let words = room(random, 2);
     let before = lent(random, 0, words, 0);
     let tick = tick(random, course);
     try_call(random, comparison, Call::RunnerAtTick { tick }, sheet, &before);
 
-    let mut words = runner(random, course).to_vec();
-    words.extend([random.word(), random.word()]);
-    words.truncate(room(random, 2).min(4));
-    let before = Lent { words, ..lent(random, 0, 0, 0) };
-    try_call(random, comparison, Call::Step, sheet, &before);
+    for call in [Call::Step, Call::Back] {
+        let mut words = runner(random, course).to_vec();
+        words.extend([random.word(), random.word()]);
+        words.truncate(room(random, 2).min(4));
+        let before = Lent { words, ..lent(random, 0, 0, 0) };
+        try_call(random, comparison, call, sheet, &before);
+    }
 }
 
 /// The length of a list that is too short.
@@ -189,14 +198,14 @@ fn tick(random: &mut Random, course: &Course) -> u64 {
     }
 }
 
-/// A runner that fits, or is at the end of its leg, or is adrift.
+/// A runner that fits, or is at an end of its leg, or is adrift.
 fn runner(random: &mut Random, course: &Course) -> [u64; 2] {
     let l = course.legs.len();
     let leg = match random.below(12) {
         0 => return [random.any_size(), random.any_size()],
         1 => return [l as u64 + random.below(2) as u64, random.below(2) as u64],
         2..=4 => l - 1,
-        5 => 0,
+        5 | 6 => 0,
         _ => random.below(l),
     };
     let h = course.legs[leg] as u64;
@@ -206,7 +215,7 @@ fn runner(random: &mut Random, course: &Course) -> [u64; 2] {
         2 => u64::MAX,
         3 | 4 => h,
         5 | 6 => h - 1,
-        7 => 0,
+        7 | 8 => 0,
         _ => random.below(h as usize) as u64,
     };
     [leg as u64, offset]
@@ -225,7 +234,7 @@ fn coverage(comparison: &mut Comparison, all: bool) {
     }
     comparison.require(!all || comparison.without_room > 0, || "no call lacked room".to_string());
     for (index, tests) in TESTS.iter().enumerate() {
-        for number in 0..16 {
+        for number in 0..WORDS.len() as u64 {
             let reached = comparison.answers[index][number as usize] > 0;
             let tested = number == 0 || tests.contains(&number);
             comparison.require(if all { reached == tested } else { tested || !reached }, || {

@@ -95,14 +95,19 @@ pub fn run(comparison: &mut Comparison) {
     }
     refusals_and_far_tick(comparison);
     writing(comparison);
+    going_back(comparison);
     println!("worked courses: {} comparisons with the figures of group W", comparison.tally.compared(Part::Worked));
+}
+
+/// An answer and the runner that it leaves.
+fn runner(answer: u64, after: &Lent) -> String {
+    format!("{answer} {:?}", &after.words[..2])
 }
 
 /// W8's tick stands at 7, which is offset 1 of leg 3; and W10.
 fn refusals_and_far_tick(comparison: &mut Comparison) {
     let lent = Lent { words: vec![u64::MAX; 3], ..Lent::default() };
     let square = Draft::of(CLOSED, &[2; 4], &[0, 6, 0, -6], None).bytes();
-    let runner = |answer: u64, after: &Lent| format!("{answer} {:?}", &after.words[..2]);
     expect(comparison, &Call::RunnerAtTick { tick: u64::MAX }, &square, &lent, "0 [3, 1]".to_string(), runner);
     for (sheet, wanted) in read_or_refused() {
         expect(comparison, &Call::Read, &sheet, &lent, wanted.to_string(), |answer, _| answer.to_string());
@@ -131,4 +136,21 @@ fn writing(comparison: &mut Comparison) {
     written(0, &[2; 511], &[0; 1_537], 2, "5 -1 eeee");
     written(0, &[2; 512], &[0; 1_539], 2, "4 -1 eeee");
     written(u64::MAX, &[2, 2], &a, 2, "3 -1 eeee");
+}
+
+/// W13: back on course A, and on W7's square.
+fn going_back(comparison: &mut Comparison) {
+    let a = Draft::of(FREE, &[2, 2], &[0, 8, 0], None).bytes();
+    let square = Draft::of(CLOSED, &[2; 4], &[0, 6, 0, -6], None).bytes();
+    let mut back = |sheet: &[u8], from: [u64; 2], wanted: &str| {
+        let before = Lent { words: vec![from[0], from[1], u64::MAX], ..Lent::default() };
+        expect(comparison, &Call::Back, sheet, &before, wanted.to_string(), runner);
+    };
+    back(&a, [1, 0], "0 [0, 1]");
+    back(&a, [1, 2], "0 [1, 1]");
+    back(&a, [0, 0], "15 [0, 0]");
+    back(&square, [0, 0], "0 [3, 1]");
+    back(&a, [0, 2], "11 [0, 2]");
+    back(&square, [4, 0], "11 [4, 0]");
+    back(&[], [0, 0], "1 [0, 0]");
 }

@@ -36,6 +36,14 @@ pub fn step(sheet: &[u8], runner: &mut [u64; 2]) -> Result<(), Refusal> {
     answer
 }
 
+/// Leg and offset, moved back in place.
+pub fn back(sheet: &[u8], runner: &mut [u64; 2]) -> Result<(), Refusal> {
+    let mut moved = Runner { leg: runner[0], offset: runner[1] };
+    let answer = station::back(sheet, &mut moved);
+    *runner = [moved.leg, moved.offset];
+    answer
+}
+
 /// The sheet's length; for a kind below 3.
 pub fn write(lists: &Lists, page: &mut [u8]) -> Result<usize, Refusal> {
     let kind = [EndKind::Free, EndKind::Held, EndKind::Closed][lists.kind as usize];
