@@ -5,7 +5,7 @@ use mathlib.Core.List.{[], _∷_, _++_}
 use Prim.Native.Nat.{ℕ, _*_, _≤_}
 use native.Mathlib.Omega.{arith}
 use lib.Dec.{lit≤}
-use lib.IntN.{ℤ, pos, negsuc, natAbs, _-ℤ_, _*ℤ_}
+use lib.IntN.{pos, negsuc, natAbs, _-ℤ_, _*ℤ_}
 use Rattle.integers.proofs.Ring.{_⊕_, _⊖_, _⊗_, ⊝_, #_}
 use Rattle.integers.proofs.Linear.{_≐_, _⊢_≗_with_, lin}
 use Rattle.integers.proofs.Order.{abs-mul}

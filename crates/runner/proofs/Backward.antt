@@ -1,13 +1,13 @@
 -- Back takes one off the tick, modulo P on a closed course, and is refused with 15 at an open course's first tick alone; any count of backs follows by induction.
 use mathlib.Core.Path.{_≡_, refl, sym, ap, _∙_, subst}
-use mathlib.Core.Bool.{Bool, true, false, cond, _&&_, true≢false, false≢true, and-eq-true-iff, and-false}
+use mathlib.Core.Bool.{Bool, true, false, cond, _&&_, true≢false, false≢true, and-eq-true-iff}
 use mathlib.Core.List.{List}
 use mathlib.Core.Logic.{_⊎_, inl, inr, ⊎-elim}
 use Prim.Native.Nat.{ℕ, zero, suc, _+_, _-_, _*_, _%_, _≤_, _<_}
 use native.Mathlib.Nat.{mod-eq-of-lt, mod-add-mod, add-mod-right}
 use native.Mathlib.Omega.{arith}
 use lib.Dec.{ltb, eqb}
-use borrow.Author.Tests.{eqb-true, eq-eqb, ne-eqb}
+use borrow.Author.Tests.{eqb-true, eq-eqb}
 use Rattle.ends.specs.declared.EndKind.the-variants.{Closed}
 use Rattle.sheet.proofs.Below.{sum-monotone}
 use Rattle.sheet.proofs.Laws.{accepted-bounds, accepted-read}
@@ -16,7 +16,6 @@ use Rattle.sheet.specs.Bytes.{sumBelow}
 use Rattle.sheet.specs.Fields.{kind, legs, leg, ticks}
 use Rattle.sheet.specs.Reading.{Accepted}
 use Rattle.sheet.specs.declared.Refusal.the-variants.{Start}
-use Rattle.answers.proofs.Guards.{done-changes, refused-keeps}
 use Rattle.integers.proofs.Order.{le-or-lt}
 use Rattle.runner.specs.Ticks.{runner, found, isOpen, tickOf}
 use Rattle.runner.specs.Steps.{repeated}

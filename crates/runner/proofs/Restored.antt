@@ -7,9 +7,7 @@ use Prim.Native.Nat.{ℕ, zero, suc, _+_, _-_, _*_, _%_, _≤_, _<_}
 use native.Mathlib.Nat.{mod-eq-of-lt, mod-add-mod, add-mod-right, suc-mod}
 use native.Mathlib.Omega.{arith}
 use Rattle.integers.proofs.Order.{le-or-lt}
-use Rattle.ends.specs.declared.EndKind.the-variants.{Closed}
-use Rattle.sheet.specs.Answers.{Told}
-use Rattle.sheet.specs.Fields.{kind, legs, leg, ticks}
+use Rattle.sheet.specs.Fields.{kind, leg, ticks}
 use Rattle.sheet.specs.Reading.{Accepted}
 use Rattle.sheet.specs.declared.Refusal.the-variants.{Landed, Start}
 use Rattle.runner.specs.Ticks.{found, isOpen, tickOf}

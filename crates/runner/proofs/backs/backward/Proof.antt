@@ -1,5 +1,5 @@
 -- `runner::backs::backward` meets its contract: what `backed` tells decides outcome and record together.
-use mathlib.Core.Path.{_≡_, ap, _∙_}
+use mathlib.Core.Path.{ap, _∙_}
 use borrow.Author.Needs.{needs}
 use Rattle.answers.specs.Answers.{bare}
 use Rattle.sheet.specs.declared.Refusal.the-variants.{Start}

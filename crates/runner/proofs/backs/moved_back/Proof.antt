@@ -1,5 +1,5 @@
 -- `runner::backs::moved_back` meets its contract: each way out is the definition's line for the tests passed on the way.
-use mathlib.Core.Path.{_≡_, ap, _∙_}
+use mathlib.Core.Path.{ap, _∙_}
 use mathlib.Core.List.{List}
 use Prim.Native.Nat.{ℕ, _-_}
 use native.Mathlib.Omega.{arith}

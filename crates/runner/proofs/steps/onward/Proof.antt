@@ -1,5 +1,5 @@
 -- `runner::steps::onward` meets its contract: what `stepped` tells decides outcome and record together.
-use mathlib.Core.Path.{_≡_, ap, _∙_}
+use mathlib.Core.Path.{ap, _∙_}
 use borrow.Author.Needs.{needs}
 use Rattle.answers.specs.Answers.{bare}
 use Rattle.sheet.specs.declared.Refusal.the-variants.{Landed}
