@@ -1,11 +1,13 @@
 -- The longest sheet (S9): an accepted one of 7,198 bytes, held, 512 waypoints at the home post, every leg 1 tick, every slope 0.
 use mathlib.Core.Path.{_≡_, refl, ap, _∙_}
-use mathlib.Core.Bool.{not, _||_}
+use mathlib.Core.Bool.{false, not, _||_}
 use mathlib.Core.List.{List, _∷_}
 use Prim.Native.Nat.{ℕ, zero, suc, _+_, _-_, _*_, _≤_, _<_}
 use native.Mathlib.Omega.{arith}
 use lib.Dec.{ltb, eqb}
+use lib.IntN.{pos}
 use lib.ListN.{length, replicate, length-replicate}
+use Rattle.integers.proofs.Order.{by-test}
 use Rattle.sheet.specs.Bytes.{byte, be16, be32, signed32, anyBelow}
 use Rattle.sheet.specs.Fields.{lengthField, points, leg, waypoint, slope}
 use Rattle.sheet.specs.Reading.{Accepted, legOutside, reachOutside, slopeOutside}
@@ -76,6 +78,10 @@ rest-number : (i : ℕ) → 1030 ≤ i → signed32 (be32 full i) ≡ signed32 0
 unfolding be16 be32
 rest-number i h = rw (rest i h, rest (i + 1) (omega arith), rest (i + 2) (omega arith), rest (i + 2 + 1) (omega arith))
 
+-- home is within reach on every axis
+home-within : (axis : ℕ) → reachOutside axis (pos 0) ≡ false
+home-within axis = by-test (eqb axis 2) false false (λ b. b ≡ false) (λ up. refl) (λ plan. refl)
+
 accepted : Accepted full
 unfolding full be16 be32 signed32
 accepted = passing-accepted full (record {
@@ -86,7 +92,7 @@ accepted = passing-accepted full (record {
   size = ap (λ n. not (eqb n 7_198)) full-length;
   leg = none-any (λ i. legOutside (leg full i)) 511 (λ i k. ap legOutside (leg-one i k));
   reach = none-any (λ i. anyBelow (λ axis. reachOutside axis (waypoint full axis i)) 3) 512
-      (λ i k. none-any (λ axis. reachOutside axis (waypoint full axis i)) 3 (λ axis l. ap (reachOutside axis) (rest-number (1030 + 12 * i + 4 * axis) (omega arith))));
+      (λ i k. none-any (λ axis. reachOutside axis (waypoint full axis i)) 3 (λ axis l. ap (reachOutside axis) (rest-number (1030 + 12 * i + 4 * axis) (omega arith)) ∙ home-within axis));
   slope = none-any (λ side. anyBelow (λ axis. slopeOutside (slope full axis side)) 3) 2
       (λ side k. none-any (λ axis. slopeOutside (slope full axis side)) 3 (λ axis l. ap slopeOutside (rest-number (7174 + 12 * side + 4 * axis) (omega arith))));
 })

@@ -25,7 +25,7 @@ use Rattle.sheet.specs.declared.Reading.the-variants.{Course, Refused}
 use Rattle.sheet.proofs.Below.{or-left, or-right, any-none, sum-at-most, sum-at-least}
 use Rattle.sheet.proofs.ByKind.{least-two, legs-at-most, legs-at-least, held-longest}
 use Rattle.sheet.proofs.Lowest.{past, passed, stopped}
-use Rattle.sheet.proofs.Numbers.{within-size}
+use Rattle.sheet.proofs.Numbers.{within-size, reach-size, within-floor, within-ceiling}
 use Rattle.sheet.proofs.Told.{number-injective, number-positive}
 pub use Rattle.sheet.proofs.Told.{told-injective}
 
@@ -148,10 +148,10 @@ module _ (s : List ℕ) (a : Accepted s) where
   leg-high : (i : ℕ) → i < legs s → leg s i ≤ 256
   leg-high i h = ltb-false 256 (leg s i) (or-right (ltb (leg s i) 1) (ltb 256 (leg s i)) (leg-within i h))
 
-  reach : (axis i : ℕ) → axis < 3 → i < points s → natAbs (waypoint s axis i) ≤ 1_000_000
-  reach axis i h k =
+  pub reach-within : (axis i : ℕ) → axis < 3 → i < points s → reachOutside axis (waypoint s axis i) ≡ false
+  reach-within axis i h k =
       let none = any-none (λ j. anyBelow (λ x. reachOutside x (waypoint s x j)) 3) (points s) (a Reach (omega arith)) i k in
-      within-size 1_000_000 (waypoint s axis i) (any-none (λ x. reachOutside x (waypoint s x i)) 3 none axis h)
+      any-none (λ x. reachOutside x (waypoint s x i)) 3 none axis h
 
   slope-within : (axis side : ℕ) → axis < 3 → side < 2 → kind s ≡ Held → natAbs (slope s axis side) ≤ 5_000
   slope-within axis side h k e =
@@ -175,7 +175,9 @@ accepted-bounds s a = record {
   size = size s a;
   leg-low = leg-low s a;
   leg-high = leg-high s a;
-  reach = reach s a;
+  reach = λ axis i h k. reach-size axis (waypoint s axis i) (reach-within s a axis i h k);
+  floor = λ i k. within-floor 50_000 120_000 (waypoint s 2 i) (reach-within s a 2 i (omega arith) k);
+  ceiling = λ i k. within-ceiling 50_000 120_000 (waypoint s 2 i) (reach-within s a 2 i (omega arith) k);
   slope = slope-within s a;
   longest = longest s a;
   some-ticks = some-ticks s a;

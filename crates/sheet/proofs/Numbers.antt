@@ -6,15 +6,15 @@ use Prim.Native.Nat.{ℕ, zero, suc, _+_, _-_, _*_, _%_, _≤_, _<_}
 use native.Mathlib.Nat.{add-zero}
 use native.Mathlib.Omega.{arith}
 use borrow.Author.Tests.{lt-ltb, le-ltb, ltb-false}
-use lib.Dec.{ltb, leb·suc-suc}
+use lib.Dec.{ltb, eqb, leb·suc-suc}
 use lib.IntN.{ℤ, pos, negsuc, negℤ, natAbs, _-ℤ_}
-use lib.Signed.{ltZ}
+use lib.Signed.{ltZ, _≤ℤ_, ltZ-no}
 use mir.Syntax.{w64}
 use mir.Val.{toZ, ofZ}
 use Rattle.integers.proofs.Machine.{back, fits-abs}
-use Rattle.integers.proofs.Order.{le-or-lt}
+use Rattle.integers.proofs.Order.{le-or-lt, by-test}
 use Rattle.sheet.specs.Bytes.{be32, signed32, anyBelow}
-use Rattle.sheet.specs.Reading.{outside}
+use Rattle.sheet.specs.Reading.{outside, reachOutside}
 use Rattle.sheet.proofs.Below.{or-left, or-right, any-three}
 
 -- ---- the two halves of the range
@@ -48,10 +48,28 @@ negsuc-below : (a n : ℕ) → ltZ (negsuc n) (negℤ (pos a)) ≡ ltb a (suc n)
 negsuc-below zero n = sym (lt-ltb 0 (suc n) (omega arith))
 negsuc-below (suc a) n = sym (leb·suc-suc (suc a) n)
 
--- within the limits: the size is bounded
+-- within the limits: the size is bounded by what bounds both
+within-most : (a b m : ℕ) (z : ℤ) → a ≤ m → b ≤ m → outside a b z ≡ false → natAbs z ≤ m
+within-most a b m (pos n) h k e = omega (arith, ltb-false b n (or-right (ltZ (pos n) (negℤ (pos a))) (ltb b n) e))
+within-most a b m (negsuc n) h k e =
+    omega (arith, ltb-false a (suc n) (sym (negsuc-below a n) ∙ or-left (ltZ (negsuc n) (negℤ (pos a))) false e))
+
 pub within-size : (a : ℕ) (z : ℤ) → outside a a z ≡ false → natAbs z ≤ a
-within-size a (pos n) e = ltb-false a n (or-right (ltZ (pos n) (negℤ (pos a))) (ltb a n) e)
-within-size a (negsuc n) e = ltb-false a (suc n) (sym (negsuc-below a n) ∙ or-left (ltZ (negsuc n) (negℤ (pos a))) false e)
+within-size a z e = within-most a a a z (omega arith) (omega arith) e
+
+-- N7: so on every axis
+pub reach-size : (axis : ℕ) (z : ℤ) → reachOutside axis z ≡ false → natAbs z ≤ 1_000_000
+reach-size axis z =
+    by-test (eqb axis 2) (outside 50_000 120_000 z) (outside 1_000_000 1_000_000 z) (λ b. b ≡ false → natAbs z ≤ 1_000_000)
+    (λ up. within-most 50_000 120_000 1_000_000 z (omega arith) (omega arith))
+    (λ plan. within-size 1_000_000 z)
+
+-- and neither limit is passed
+pub within-floor : (a b : ℕ) (z : ℤ) → outside a b z ≡ false → negℤ (pos a) ≤ℤ z
+within-floor a b z e = ltZ-no (rw (or-left (ltZ z (negℤ (pos a))) (ltZ (pos b) z) e) tt)
+
+pub within-ceiling : (a b : ℕ) (z : ℤ) → outside a b z ≡ false → z ≤ℤ pos b
+within-ceiling a b z e = ltZ-no (rw (or-right (ltZ z (negℤ (pos a))) (ltZ (pos b) z) e) tt)
 
 -- a question asked of the three axes, of which a triple of numbers has one each
 pub any-axis : (f : ℕ → ℤ → Bool) (s : List ℕ) (at : ℕ) {a b c : Bool}

@@ -1,6 +1,6 @@
 -- What reading a sheet answers (N1 to N8, A1, A2), and which sheets are accepted (A10).
 use mathlib.Core.Path.{_≡_}
-use mathlib.Core.Bool.{Bool, true, false, not, _||_}
+use mathlib.Core.Bool.{Bool, true, false, not, cond, _||_}
 use mathlib.Core.List.{List, [], _∷_}
 use Prim.Native.Nat.{ℕ, _≤_}
 use lib.Dec.{ltb, eqb}
@@ -26,9 +26,9 @@ outside a b z = ltZ z (negℤ (pos a)) || ltZ (pos b) z
 abbrev pub legOutside : ℕ → Bool
 legOutside h = ltb h 1 || ltb 256 h
 
--- N7, of one number of a waypoint, asked for its axis: all axes are alike today
+-- N7, of one number of a waypoint, by its axis: north (0) and east (1) have one span, up (2) has the permit's floor and ceiling
 abbrev pub reachOutside : ℕ → ℤ → Bool
-reachOutside axis z = outside 1_000_000 1_000_000 z
+reachOutside axis z = cond (eqb axis 2) (outside 50_000 120_000 z) (outside 1_000_000 1_000_000 z)
 
 -- N8, of one slope
 abbrev pub slopeOutside : ℤ → Bool

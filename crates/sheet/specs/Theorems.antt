@@ -4,8 +4,9 @@ use mathlib.Core.Bool.{true, false}
 use mathlib.Core.List.{List}
 use mathlib.Core.Logic.{_⊎_}
 use Prim.Native.Nat.{ℕ, _≤_, _<_}
-use lib.IntN.{natAbs}
+use lib.IntN.{pos, negℤ, natAbs}
 use lib.ListN.{length}
+use lib.Signed.{_≤ℤ_}
 use Rattle.ends.specs.Ends.{leastPoints}
 use Rattle.ends.specs.declared.EndKind.{EndKind}
 use Rattle.ends.specs.declared.EndKind.the-variants.{Held}
@@ -37,6 +38,8 @@ pub record Bounds (s : List ℕ) : Type 0 where
   pub leg-low : (i : ℕ) → i < legs s → 1 ≤ leg s i
   pub leg-high : (i : ℕ) → i < legs s → leg s i ≤ 256
   pub reach : (axis i : ℕ) → axis < 3 → i < points s → natAbs (waypoint s axis i) ≤ 1_000_000
+  pub floor : (i : ℕ) → i < points s → negℤ (pos 50_000) ≤ℤ waypoint s 2 i
+  pub ceiling : (i : ℕ) → i < points s → waypoint s 2 i ≤ℤ pos 120_000
   pub slope : (axis side : ℕ) → axis < 3 → side < 2 → kind s ≡ Held → natAbs (slope s axis side) ≤ 5_000
   pub longest : length s ≤ longestSheet
   pub some-ticks : 1 ≤ ticks s

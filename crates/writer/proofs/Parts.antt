@@ -9,7 +9,7 @@ use lib.ListN.{length, getD, length-append}
 use Rattle.ends.specs.declared.EndKind.{EndKind}
 use Rattle.ends.specs.declared.EndKind.the-variants.{Free, Held, Closed}
 use Rattle.sheet.specs.Fields.{slopeBytes}
-use Rattle.sheet.proofs.Numbers.{within-size}
+use Rattle.sheet.proofs.Numbers.{within-size, reach-size}
 use Rattle.lists.specs.Lists.{Lists, kindIn, pointsIn, numberOn, slopeCount, sizeOf}
 use Rattle.writer.specs.Sheets.{bytes16, numberBytes, headBytes, writtenSheet}
 use Rattle.lists.specs.Inside.{Writable}
@@ -61,7 +61,7 @@ module _ (c : Lists) (w : Writable c) where
 
   -- every number fits 32 bits
   pub number-small : (axis i : ℕ) → axis < 3 → i < pointsIn (c .waypoints) → natAbs (numberOn (c .waypoints) axis i) < 2147483648
-  number-small axis i h k = omega (arith, within-size 1_000_000 (numberOn (c .waypoints) axis i) (w .reach-in axis i h k))
+  number-small axis i h k = omega (arith, reach-size axis (numberOn (c .waypoints) axis i) (w .reach-in axis i h k))
 
   pub each-small : (j : ℕ) → j < length (c .waypoints) → natAbs (getD (c .waypoints) j (pos 0)) < 2147483648
   each-small j h =

@@ -15,10 +15,10 @@ use Rattle.sheet.specs.Bytes.{byte, be32, signed32, anyBelow}
 use Rattle.sheet.specs.Fields.{lengthField, version, kindField, kind, points, legs, leg, waypoint, slope, waypointsFrom, slopesFrom, sheetLength}
 use Rattle.sheet.specs.Reading.{Accepted, legOutside, reachOutside, slopeOutside, slopesOutside}
 use Rattle.sheet.specs.Theorems.{Bounds}
-use Rattle.sheet.specs.declared.Refusal.the-variants.{Torn, Edition, Ends, Leg, Reach, Slope}
+use Rattle.sheet.specs.declared.Refusal.the-variants.{Torn, Edition, Ends, Leg, Slope}
 use Rattle.sheet.proofs.Below.{or-right, any-none}
 use Rattle.sheet.proofs.ByKind.{least-two}
-use Rattle.sheet.proofs.Laws.{accepted-bounds}
+use Rattle.sheet.proofs.Laws.{accepted-bounds, reach-within}
 use Rattle.lists.specs.Lists.{Lists, pointsIn, numberOn, slopeCount, sizeOf, listBelow, listsOf}
 use Rattle.writer.specs.Sheets.{bytes16, bytes32, numberBytes, headBytes, bodyBytes, writtenSheet}
 use Rattle.lists.specs.Answer.{toldWritten}
@@ -115,11 +115,6 @@ module _ (s : List ℕ) (small : (i : ℕ) → byte s i < 256) (a : Accepted s) 
       (any-none (λ y. anyBelow (λ x. slopeOutside (slope s x y)) 3) 2 held (i / 3) (omega arith)) (i % 3) (omega arith)
   slope-within Closed i e h = absurd (omega arith)
 
-  reach-within : (axis i : ℕ) → axis < 3 → i < points s → reachOutside axis (waypoint s axis i) ≡ false
-  reach-within axis i h k =
-      any-none (λ x. reachOutside x (waypoint s x i)) 3
-      (any-none (λ j. anyBelow (λ x. reachOutside x (waypoint s x j)) 3) (points s) (a Reach (omega arith)) i k) axis h
-
   pub number-is : (axis i : ℕ) → axis < 3 → i < points s → numberOn (c .waypoints) axis i ≡ waypoint s axis i
   unfolding listsOf
   number-is axis i h k =
@@ -140,7 +135,7 @@ module _ (s : List ℕ) (small : (i : ℕ) → byte s i < 256) (a : Accepted s) 
         ap legOutside (get-below (leg s) (legs s) i 0 k) ∙ any-none (λ j. legOutside (leg s j)) (legs s) (a Leg (omega arith)) i k;
     reach-in = λ axis i h k.
         let inside : i < points s = omega (arith, count-is) in
-        ap (reachOutside axis) (number-is axis i h inside) ∙ reach-within axis i h inside;
+        ap (reachOutside axis) (number-is axis i h inside) ∙ reach-within s a axis i h inside;
     slope-in = λ i h.
         let k : i < slopeCount (kind s) = omega (arith, length-below (λ j. slope s (j % 3) (j / 3)) (slopeCount (kind s))) in
         ap slopeOutside (get-below (λ j. slope s (j % 3) (j / 3)) (slopeCount (kind s)) i (pos 0) k) ∙ slope-within (kind s) i refl k;

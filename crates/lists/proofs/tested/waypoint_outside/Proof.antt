@@ -1,6 +1,6 @@
 -- `lists::tested::waypoint_outside` meets its contract: one test for each axis, and the first that holds tells.
 use mathlib.Core.Path.{_≡_, refl, sym, ap, _∙_}
-use mathlib.Core.Bool.{Bool}
+use mathlib.Core.Bool.{Bool, true}
 use mathlib.Core.List.{List}
 use native.Mathlib.Nat.{add-zero}
 use Prim.Native.Nat.{ℕ, _+_}
@@ -12,6 +12,11 @@ use Rattle.sheet.specs.Reading.{reachOutside}
 use Rattle.sheet.proofs.Below.{any-three}
 use Rattle.lists.proofs.tested.waypoint_outside.Statement.{statement}
 use Rattle.lists.proofs.tested.waypoint_outside.Tie as tie
+
+-- tried where up is 120,001: the last test tells
+up-tried : (c : tie.After-reach-outside3) → let a = c .before .before .before .before .before .before .before .before .args in
+    getD (a .waypoints .now) (a .at + 2) (pos 0) ≡ pos 120_001 → c .reach-outside3 .result ≡ true
+up-tried c e = c .reach-outside3 .ensures ∙ simp e refl
 
 -- the number on an axis of the waypoint at `at`
 abbrev outsideOn : List ℤ → ℕ → ℕ → Bool

@@ -1,6 +1,6 @@
 -- `sheet::reader::waypoint_outside` meets its contract: one test for each axis, and the first that holds tells.
 use mathlib.Core.Path.{_≡_, refl, sym, _∙_, ap}
-use mathlib.Core.Bool.{true}
+use mathlib.Core.Bool.{true, false}
 use mathlib.Core.List.{List}
 use Prim.Native.Nat.{ℕ, _+_}
 use borrow.Author.Needs.{needs}
@@ -10,6 +10,17 @@ use Rattle.sheet.specs.Reading.{reachOutside}
 use Rattle.sheet.proofs.Numbers.{as-read, any-axis}
 use Rattle.sheet.proofs.reader.waypoint_outside.Statement.{statement}
 use Rattle.sheet.proofs.reader.waypoint_outside.Tie as tie
+
+-- tried at the waypoint (1,000,000, 0, 0): the first test passes it; and at (0, 0, 120,001): the last test tells
+north-tried : (c : tie.After-reach-outside)
+    → c .before .before .read-triple .result ≡ record { north = pos 1_000_000; east = pos 0; up = pos 0 }
+    → c .reach-outside .result ≡ false
+north-tried c e = c .reach-outside .ensures ∙ simp e refl
+
+up-tried : (c : tie.After-reach-outside3)
+    → c .before .before .before .before .before .before .before .before .read-triple .result ≡ record { north = pos 0; east = pos 0; up = pos 120_001 }
+    → c .reach-outside3 .result ≡ true
+up-tried c e = c .reach-outside3 .ensures ∙ simp e refl
 
 -- the bytes, and where the waypoint's start
 module _ (c : tie.After-read-triple) where
@@ -26,12 +37,6 @@ east : (c : tie.After-reach-outside2) → let t = c .before .before .before .bef
 east c =
     let e = c .before .before .before .before .before .read-triple .ensures in
     c .reach-outside2 .ensures ∙ ap (reachOutside 1) (as-read (e .0 .1) (e .1 .1))
-
--- tried at the waypoint (0, 0, 1,000,001): the last test tells
-up-tried : (c : tie.After-reach-outside3)
-    → c .before .before .before .before .before .before .before .before .read-triple .result ≡ record { north = pos 0; east = pos 0; up = pos 1_000_001 }
-    → c .reach-outside3 .result ≡ true
-up-tried c e = c .reach-outside3 .ensures ∙ simp e refl
 
 read-triple-requires : tie.Need-read-triple-requires
 read-triple-requires c κs = search needs
