@@ -4,6 +4,7 @@ use Rattle.lists.proofs.Worked.{answers-tried}
 use Rattle.writer.proofs.Worked.{sheet-tried}
 use Rattle.written.proofs.Accepted.{written-accepted}
 use Rattle.written.proofs.Again.{written-again}
+use Rattle.written.proofs.Worked.{reach-tried}
 use Rattle.systems.proofs.Size.{unique, solution-bounded}
 use Rattle.systems.proofs.Existence.{solvable}
 use Rattle.systems.proofs.Distance.{passes-near, forty-passes-near, passes-bounded}
@@ -78,6 +79,7 @@ claims = record {
     answers-tried = answers-tried;
     sheet-tried = sheet-tried;
     moves-tried = moves-tried;
+    reach-tried = reach-tried;
     chord-not-near = chord-not-near;
   };
   demand3 = claim;

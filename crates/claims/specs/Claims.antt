@@ -4,6 +4,7 @@ use Rattle.sheet.specs.Theorems.{ReadOrRefused, ReadAccepted, AcceptedBounds}
 use Rattle.lists.specs.Worked.{AnswersTried}
 use Rattle.writer.specs.Worked.{SheetTried}
 use Rattle.written.specs.Theorems.{WrittenAccepted, WrittenAgain}
+use Rattle.written.specs.Worked.{ReachTried}
 use Rattle.systems.specs.Theorems.{Solvable, Unique, SolutionBounded, PassesNear, FortyPassesNear, PassesBounded, EarlyEnd}
 use Rattle.spline.specs.Theorems.{RowGap, RowsFollow, SplineExists, OneCurve, BendsNear, FreePairZeros, BendsBounded, PositionSharp, PositionNear}
 use Rattle.layout.specs.Theorems.{CourseInBounds, LaidOutNear}
@@ -91,6 +92,8 @@ pub record Demand2 : Type 0 where
   pub sheet-tried : SheetTried
   -- W13
   pub moves-tried : MovesTried
+  -- W14
+  pub reach-tried : ReachTried
   -- K4, K8: zeros in place of bend numbers fail on tenfold A
   pub chord-not-near : ChordNotNear
 

@@ -1,3 +1,4 @@
 -- The theorems of written sheets.
+pub mod Worked
 pub mod Accepted
 pub mod Again

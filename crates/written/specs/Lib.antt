@@ -1,2 +1,3 @@
 -- What is proved of written sheets.
 pub mod Theorems
+pub mod Worked

@@ -1,1 +1,2 @@
-// No code: what is proved of written sheets (G5, G6), over the definitions that the writer promises. See specs/Theorems.antt.
+// No code: what is proved of written sheets (G5, G6), and of reading and writing at the limits of reach (W14), over the definitions that both promise.
+// See specs/Theorems.antt, specs/Worked.antt.
