@@ -23,36 +23,52 @@ fn put16(sheet: &mut [u8], at: usize, x: u64)
     sheet[at + 1] = (x % 256) as u8;
 }
 
-// The number x - reach, in two's complement.
-fn put_number(sheet: &mut [u8], at: usize, x: u64, reach: u64)
-    requires { ⌜ (at + 4 ≤ length (now sheet)) × (x ≤ 2000000) × (reach ≤ 1000000) ⌝ }
+// The number x - below, in two's complement.
+fn put_number(sheet: &mut [u8], at: usize, x: u64, below: u64)
+    requires { ⌜ (at + 4 ≤ length (now sheet)) × (x ≤ 2000000) × (below ≤ 1000000) ⌝ }
 {
-    let bits = (x + 4294967296 - reach) % 4294967296;
+    let bits = (x + 4294967296 - below) % 4294967296;
     put16(sheet, at, bits / 65536);
     put16(sheet, at + 2, bits % 65536);
 }
 
-// The largest slope, or the largest number of a waypoint.
-fn reach_of(slope: bool) -> u64
-    ensures { λ r. ⌜ r ≤ 1000000 ⌝ }
-{
-    if slope { 5000 } else { 1000000 }
+// How far below 0 and above it a number may lie.
+struct Span {
+    below: u64,
+    above: u64,
 }
 
-// A number of 0 to twice the reach: any, or one of the two ends.
-fn picked(seed: u64, slope: bool, ends_alone: bool) -> u64
+// The span of the i-th slope (N8), or of the i-th number of the waypoints, of which every third is an up (N7).
+fn span_of(slope: bool, i: usize) -> Span
+    ensures { λ r. ⌜ (r .below ≤ 1000000) × (r .above ≤ 1000000) ⌝ }
+{
+    if slope {
+        Span {
+            below: 5000,
+            above: 5000,
+        }
+    } else if i % 3 == 2 {
+        Span {
+            below: 50000,
+            above: 120000,
+        }
+    } else {
+        Span {
+            below: 1000000,
+            above: 1000000,
+        }
+    }
+}
+
+// A number of 0 to `most`: any, or one of the two ends.
+fn picked(seed: u64, most: u64, ends_alone: bool) -> u64
+    requires { ⌜ most ≤ 2000000 ⌝ }
     ensures { λ r. ⌜ r ≤ 2000000 ⌝ }
 {
     if ends_alone {
-        if seed % 2 == 0 {
-            0
-        } else {
-            2 * reach_of(slope)
-        }
-    } else if slope {
-        seed % 10001
+        if seed % 2 == 0 { 0 } else { most }
     } else {
-        seed % 2000001
+        seed % (most + 1)
     }
 }
 
@@ -107,11 +123,12 @@ fn put_numbers(
     let mut seed = from;
     for i in 0..count {
         seed = drawn(seed);
+        let span = span_of(slope, i);
         put_number(
             sheet,
             start + 4 * i,
-            picked(seed, slope, ends_alone),
-            reach_of(slope),
+            picked(seed, span.below + span.above, ends_alone),
+            span.below,
         );
     }
     seed

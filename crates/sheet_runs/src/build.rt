@@ -60,16 +60,24 @@ fn number(i: usize, low: u64, spread: u64) -> u64
     low + (65537 * i) as u64 % spread
 }
 
-// Such numbers, each of two or four bytes.
-fn fill(bytes: &mut [u8; 8192], from: usize, width: usize, count: usize, low: u64, spread: u64)
-    requires { ⌜ (from ≤ 10000) × (width ≤ 4) × (count ≤ 2000) × (low ≤ 4294967296) × (1 ≤ spread) × (spread ≤ 2000001) ⌝ }
+// Such numbers, each of two or four bytes, one every `step` bytes.
+fn fill(
+    bytes: &mut [u8; 8192],
+    from: usize,
+    width: usize,
+    step: usize,
+    count: usize,
+    low: u64,
+    spread: u64,
+)
+    requires { ⌜ (from ≤ 10000) × (step ≤ 12) × (count ≤ 2000) × (low ≤ 4294967296) × (1 ≤ spread) × (spread ≤ 2000001) ⌝ }
 {
     let mut i = 0;
     let mut at = from;
     while i < count {
         let x = number(i, low, spread);
         put(bytes, at, width, x);
-        at = at + width;
+        at = at + step;
         i = i + 1;
     }
 }
@@ -99,8 +107,10 @@ pub fn plain(bytes: &mut [u8; 8192], kind: u8, n: usize) -> usize
     let slopes = waypoints + 12 * n;
     let length = slopes + slope_bytes(kind);
     head(bytes, kind, n, length);
-    fill(bytes, 8, 2, legs, 1, 256);
-    fill(bytes, waypoints, 4, 3 * n, minus(1000000), 2000001);
-    fill(bytes, slopes, 4, 6, minus(5000), 10001);
+    fill(bytes, 8, 2, 2, legs, 1, 256);
+    fill(bytes, waypoints, 4, 12, n, minus(1000000), 2000001);
+    fill(bytes, waypoints + 4, 4, 12, n, minus(1000000), 2000001);
+    fill(bytes, waypoints + 8, 4, 12, n, minus(50000), 170001);
+    fill(bytes, slopes, 4, 4, 6, minus(5000), 10001);
     length
 }

@@ -24,7 +24,8 @@ pub fn whole(name: &[u8], kind: u8, n: usize)
     changed(name, kind, n, 0, 0, 0);
 }
 
-// Makes one of the numbers 1 to 8 apply to a sheet of three waypoints (8: if it is held), and answers its length, which 5 changes.
+// Makes one of the numbers 1 to 8 apply to a sheet of three waypoints (7: by the first one's up; 8: if it is held), and answers its length, which 5
+// changes.
 fn fault(bytes: &mut [u8; 8192], kind: u8, number: usize, length: usize) -> usize
     requires { ⌜ length ≤ 9000 ⌝ }
     ensures { λ r. ⌜ r ≤ length + 1 ⌝ }
@@ -36,7 +37,7 @@ fn fault(bytes: &mut [u8; 8192], kind: u8, number: usize, length: usize) -> usiz
         4 => put(bytes, 6, 2, 513),
         5 => put(bytes, 0, 4, length as u64 + 1),
         6 => put(bytes, 8, 2, 257),
-        7 => put(bytes, 8 + 2 * leg_count(kind, 3), 4, 1000001),
+        7 => put(bytes, 16 + 2 * leg_count(kind, 3), 4, 120001),
         _ => put(bytes, 68, 4, 5001),
     }
     if number == 5 { length + 1 } else { length }

@@ -18,7 +18,8 @@ fn main() {
     free_sizes();
     other_sizes();
     legs();
-    waypoints();
+    plan();
+    heights();
     slopes();
 
     faults(b"free", 0);
@@ -88,8 +89,8 @@ fn legs() {
     changed(b"closing leg 0", 2, 3, 12, 2, 0);
 }
 
-// N7: each of a waypoint's numbers is -1,000,000 to 1,000,000. The first stands at byte 12, or 14 in a closed sheet.
-fn waypoints() {
+// N7 on north and east: -1,000,000 to 1,000,000. A free sheet's first waypoint stands at byte 12, a held one's second at byte 24.
+fn plan() {
     changed(b"north 1,000,000", 0, 3, 12, 4, 1000000);
     changed(b"north 1,000,001", 0, 3, 12, 4, 1000001);
     changed(b"north -1,000,000", 0, 3, 12, 4, minus(1000000));
@@ -97,12 +98,26 @@ fn waypoints() {
     changed(b"north -1", 0, 3, 12, 4, minus(1));
     changed(b"north 2,147,483,647", 0, 3, 12, 4, 2147483647);
     changed(b"north -2,147,483,648", 0, 3, 12, 4, minus(2147483648));
+    changed(b"east 1,000,000", 1, 3, 28, 4, 1000000);
     changed(b"east 1,000,001", 1, 3, 28, 4, 1000001);
+    changed(b"east -1,000,000", 1, 3, 28, 4, minus(1000000));
     changed(b"east -1,000,001", 1, 3, 28, 4, minus(1000001));
+}
+
+// N7 on up: -50,000 to 120,000. A closed sheet's first waypoint stands at byte 14, its last one at byte 38.
+fn heights() {
+    changed(b"up 120,000", 2, 3, 22, 4, 120000);
+    changed(b"up 120,001", 2, 3, 22, 4, 120001);
+    changed(b"up -50,000", 2, 3, 22, 4, minus(50000));
+    changed(b"up -50,001", 2, 3, 22, 4, minus(50001));
+    changed(b"last up 120,000", 2, 3, 46, 4, 120000);
+    changed(b"last up 120,001", 2, 3, 46, 4, 120001);
+    changed(b"last up -50,000", 2, 3, 46, 4, minus(50000));
+    changed(b"last up -50,001", 2, 3, 46, 4, minus(50001));
     changed(b"last up 1,000,000", 2, 3, 46, 4, 1000000);
-    changed(b"last up 1,000,001", 2, 3, 46, 4, 1000001);
-    changed(b"last up -1,000,000", 2, 3, 46, 4, minus(1000000));
-    changed(b"last up -1,000,001", 2, 3, 46, 4, minus(1000001));
+    changed(b"last up -120,000", 2, 3, 46, 4, minus(120000));
+    changed(b"last up 2,147,483,647", 2, 3, 46, 4, 2147483647);
+    changed(b"last up -2,147,483,648", 2, 3, 46, 4, minus(2147483648));
 }
 
 // N8: each slope is -5,000 to 5,000. The first stands at byte 48.

@@ -18,17 +18,20 @@ loop-holds c = search needs
 drawn-requires : tie.Need-drawn-requires Inv-loop μ-loop
 drawn-requires c κs = search needs
 
+span-of-requires : tie.Need-span-of-requires Inv-loop μ-loop
+span-of-requires c κs = search needs
+
 mul-put-number : tie.Need-mul-put-number Inv-loop μ-loop
 mul-put-number c = search needs
 
 add-put-number : tie.Need-add-put-number Inv-loop μ-loop
 add-put-number c = search needs
 
+add-picked : tie.Need-add-picked Inv-loop μ-loop
+add-picked c = search needs
+
 picked-requires : tie.Need-picked-requires Inv-loop μ-loop
 picked-requires c κs = search needs
-
-reach-of-requires : tie.Need-reach-of-requires Inv-loop μ-loop
-reach-of-requires c κs = search needs
 
 put-number-requires : tie.Need-put-number-requires Inv-loop μ-loop
 put-number-requires c κs = search needs
@@ -56,10 +59,11 @@ put-numbers-spec =
     μ-loop
     loop-holds
     drawn-requires
+    span-of-requires
     mul-put-number
     add-put-number
+    add-picked
     picked-requires
-    reach-of-requires
     put-number-requires
     add-i
     loop-less

@@ -1,14 +1,14 @@
--- `sheet_runs::build::fill` is safe: what it writes to stays near `from`, since each number has at most four bytes.
+-- `sheet_runs::build::fill` is safe: what it writes to stays near `from`, since it goes on by at most twelve bytes.
 use Prim.Native.Nat.{_+_, _*_, _-_, _≤_}
 use native.Mathlib.Omega.{arith}
 use Rattle.sheet_runs.proofs.build.fill.Statement.{statement}
 use Rattle.sheet_runs.proofs.build.fill.Tie as tie
 
 abbrev Inv-loop : tie.InvT-loop
-Inv-loop bytes₀ from width count low spread i₀ at₀ bytes i at = (i ≤ count) × (at ≤ from + 4 * i)
+Inv-loop bytes₀ from width step count low spread i₀ at₀ bytes i at = (i ≤ count) × (at ≤ from + 12 * i)
 
 abbrev μ-loop : tie.MeasureT-loop
-μ-loop bytes₀ from width count low spread i₀ at₀ bytes i at = count - i
+μ-loop bytes₀ from width step count low spread i₀ at₀ bytes i at = count - i
 
 loop-holds : tie.Need-loop-holds Inv-loop μ-loop
 loop-holds c = omega arith

@@ -1,0 +1,25 @@
+-- `floats_runs::sheets::picked` stays in its range: a remainder is below what it is divided by.
+use Prim.Native.Nat.{_+_}
+use native.Mathlib.Nat.{mod-lt}
+use native.Mathlib.Omega.{arith}
+use borrow.Author.Needs.{needs}
+use Rattle.floats_runs.proofs.sheets.picked.Statement.{statement}
+use Rattle.floats_runs.proofs.sheets.picked.Tie as tie
+
+add-result : tie.Need-add-result
+add-result c = search needs
+
+rem-result : tie.Need-rem-result
+rem-result c = search needs
+
+returns : tie.Need-returns
+returns c = search needs
+
+returns-2 : tie.Need-returns-2
+returns-2 c = search needs
+
+returns-3 : tie.Need-returns-3
+returns-3 c = let a = c .before .args in omega (arith, mod-lt (a .seed) {m = a .most + 1} (omega arith))
+
+pub picked-spec : {M : Type 1} → statement M
+picked-spec = tie.close (tie.spec add-result rem-result returns returns-2 returns-3)
