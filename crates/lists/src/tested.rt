@@ -1,4 +1,4 @@
-// The tests before anything is written (G3, G4); those of one number are the reader's own.
+// The tests before anything is written (G3, G4); those of one number are crate sheet's.
 ghost use mathlib.Core.Path.{_≡_};
 ghost use Prim.Native.Nat.{_+_, _≤_};
 ghost use lib.IntN.{pos};

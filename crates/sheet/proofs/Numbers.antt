@@ -5,7 +5,7 @@ use mathlib.Core.List.{List}
 use Prim.Native.Nat.{ℕ, zero, suc, _+_, _-_, _*_, _%_, _≤_, _<_}
 use native.Mathlib.Nat.{add-zero}
 use native.Mathlib.Omega.{arith}
-use borrow.Author.Tests.{lt-ltb, le-ltb, ltb-false}
+use borrow.Author.Tests.{lt-ltb, le-ltb, ltb-false, eq-eqb, ne-eqb}
 use lib.Dec.{ltb, eqb, leb·suc-suc}
 use lib.IntN.{ℤ, pos, negsuc, negℤ, natAbs, _-ℤ_}
 use lib.Signed.{ltZ, _≤ℤ_, ltZ-no}
@@ -44,6 +44,10 @@ pub as-read : {x y : ℤ} → y ≡ x → natAbs y ≤ 2147483648 → toZ w64 (o
 as-read {y = y} e h = back refl (fits-abs y (omega arith)) ∙ e
 
 -- ---- the limits
+pos-below : (a n : ℕ) → ltZ (pos n) (negℤ (pos a)) ≡ false
+pos-below zero n = le-ltb n 0 (omega arith)
+pos-below (suc a) n = refl
+
 negsuc-below : (a n : ℕ) → ltZ (negsuc n) (negℤ (pos a)) ≡ ltb a (suc n)
 negsuc-below zero n = sym (lt-ltb 0 (suc n) (omega arith))
 negsuc-below (suc a) n = sym (leb·suc-suc (suc a) n)
@@ -64,7 +68,29 @@ reach-size axis z =
     (λ up. within-most 50_000 120_000 1_000_000 z (omega arith) (omega arith))
     (λ plan. within-size 1_000_000 z)
 
--- and neither limit is passed
+-- N7 as the code asks it: on up, and on the other axes
+pub on-up : (axis : ℕ) (z : ℤ) → axis ≡ 2 → outside 50_000 120_000 z ≡ reachOutside axis z
+on-up axis z e = simp (eq-eqb axis 2 e)
+
+pub in-plan : (axis : ℕ) (z : ℤ) → (axis ≡ 2 → ⊥) → outside 1_000_000 1_000_000 z ≡ reachOutside axis z
+in-plan axis z h = simp (ne-eqb axis 2 h)
+
+-- one comparison of the 32 bits, moved up by a
+pub outside-moved : (a b x : ℕ) → x < 4294967296 → a ≤ 2147483648 → b < 2147483648 → ltb (a + b) ((x + a) % 4294967296) ≡ outside a b (signed32 x)
+outside-moved a b x h ha hb =
+    le-or-lt 2147483648 x (ltb (a + b) ((x + a) % 4294967296) ≡ outside a b (signed32 x))
+    (λ k. rw (signed-high x k h, negsuc-below a (4294967295 - x)) (
+    le-or-lt 4294967296 (x + a) (ltb (a + b) ((x + a) % 4294967296) ≡ (ltb a (suc (4294967295 - x)) || false))
+    (λ m. rw (le-ltb (a + b) ((x + a) % 4294967296) (omega arith), le-ltb a (suc (4294967295 - x)) (omega arith)))
+    (λ m. rw (lt-ltb (a + b) ((x + a) % 4294967296) (omega arith), lt-ltb a (suc (4294967295 - x)) (omega arith)))
+    ))
+    (λ k. rw (signed-low x k, pos-below a x) (
+    le-or-lt x b (ltb (a + b) ((x + a) % 4294967296) ≡ ltb b x)
+    (λ m. rw (le-ltb (a + b) ((x + a) % 4294967296) (omega arith), le-ltb b x m))
+    (λ m. rw (lt-ltb (a + b) ((x + a) % 4294967296) (omega arith), lt-ltb b x m))
+    ))
+
+-- within the limits neither is passed
 pub within-floor : (a b : ℕ) (z : ℤ) → outside a b z ≡ false → negℤ (pos a) ≤ℤ z
 within-floor a b z e = ltZ-no (rw (or-left (ltZ z (negℤ (pos a))) (ltZ (pos b) z) e) tt)
 

@@ -16,8 +16,8 @@ use crate::Refusal;
 use crate::bytes::read_signed;
 use crate::bytes::read16;
 use crate::bytes::read32;
+use crate::limits::bits_outside;
 use crate::limits::leg_outside;
-use crate::limits::reach_outside;
 use crate::limits::slope_outside;
 use ends::EndKind;
 
@@ -75,14 +75,14 @@ fn add_legs(s: &[u8], count: usize) -> Legs
     Legs { ticks, outside }
 }
 
-// A waypoint's three numbers (S7), or one side's three slopes (S8).
+// One side's three slopes (S8).
 struct Triple {
     north: i64,
     east: i64,
     up: i64,
 }
 
-// Three numbers that stand one behind the other.
+// Those that stand from `at` on.
 fn read_triple(s: &[u8], at: usize) -> Triple
     requires { ⌜ at + 12 ≤ length (now s) ⌝ }
     ensures numbers { λ r. ⌜ (r .north ≡ signed32 (be32 (now (s .entry)) at)) × (r .east ≡ signed32 (be32 (now (s .entry)) (at + 4))) × (r .up ≡ signed32 (be32 (now (s .entry)) (at + 8))) ⌝ }
@@ -100,14 +100,13 @@ fn waypoint_outside(s: &[u8], at: usize) -> bool
     requires { ⌜ at + 12 ≤ length (now s) ⌝ }
     ensures { λ r. ⌜ r ≡ anyBelow (λ axis. reachOutside axis (signed32 (be32 (now (s .entry)) (at + 4 * axis)))) 3 ⌝ }
 {
-    let x = read_triple(s, at);
-    if reach_outside(0, x.north) {
+    if bits_outside(0, read32(s, at)) {
         return true;
     }
-    if reach_outside(1, x.east) {
+    if bits_outside(1, read32(s, at + 4)) {
         return true;
     }
-    reach_outside(2, x.up)
+    bits_outside(2, read32(s, at + 8))
 }
 
 // N7, of the first `count` waypoints.

@@ -1,16 +1,12 @@
 -- `sheet::limits::reach_outside` meets its contract: it asks the span that the definition has for the axis.
-use mathlib.Core.Path.{_≡_, refl, sym}
-use mathlib.Core.Bool.{Bool, cond}
+use mathlib.Core.Path.{refl, ap, _∙_}
 use native.Mathlib.Omega.{arith}
 use borrow.Author.Needs.{needs}
-use borrow.Author.Tests.{eq-eqb, ne-eqb}
-use lib.Dec.{eqb}
-use lib.IntN.{ℤ, pos, negℤ}
-use mir.Syntax.{w64}
-use mir.Val.{toZ, ofZ}
+use lib.IntN.{pos, negℤ}
 use Rattle.integers.proofs.Machine.{back}
 use Rattle.integers.proofs.Tried.{Tried, tried}
-use Rattle.sheet.specs.Reading.{outside, reachOutside}
+use Rattle.sheet.specs.Reading.{outside}
+use Rattle.sheet.proofs.Numbers.{on-up, in-plan}
 use Rattle.sheet.proofs.limits.reach_outside.Statement.{statement}
 use Rattle.sheet.proofs.limits.reach_outside.Tie as tie
 
@@ -45,18 +41,11 @@ far-tried : Tried
 unfolding far
 far-tried = tried (λ (need : tie.Need-returns-2). need far) refl
 
--- the test of one span, of the number as the code holds it
-abbrev asked : Bool → ℤ → Bool
-asked isUp z = cond isUp (outside 50_000 120_000 z) (outside 1_000_000 1_000_000 z)
-
-of-axis : (s : tie.Start) {isUp : Bool} → isUp ≡ eqb (s .args .axis) 2 → asked isUp (toZ w64 (ofZ w64 (s .args .z))) ≡ reachOutside (s .args .axis) (s .args .z)
-of-axis s e = (λ i. asked (e i) (back refl (s .fits .z) i))
-
 returns : tie.Need-returns
-returns c = of-axis (c .before) (sym (eq-eqb (c .before .args .axis) 2 (c .if1 .taken)))
+returns c = let s = c .before in ap (outside 50_000 120_000) (back refl (s .fits .z)) ∙ on-up (s .args .axis) (s .args .z) (c .if1 .taken)
 
 returns-2 : tie.Need-returns-2
-returns-2 c = of-axis (c .before) (sym (ne-eqb (c .before .args .axis) 2 (c .if1 .left)))
+returns-2 c = let s = c .before in ap (outside 1_000_000 1_000_000) (back refl (s .fits .z)) ∙ in-plan (s .args .axis) (s .args .z) (c .if1 .left)
 
 pub reach-outside-spec : {M : Type 1} → statement M
 reach-outside-spec = tie.close (tie.spec returns returns-2)
