@@ -20,7 +20,7 @@
  * [measured]
  *   format:           elf64-x86-64, for Linux (System V calls)
  *   outside symbols:  memset
- *   code:             5292 bytes with constants, data 0, zeroed data 0
+ *   code:             5279 bytes with constants, data 0, zeroed data 0
  *   deepest stack:    256 bytes (read 136, lay_out 256, place_at_tick 248, place_of_runner 248, runner_at_tick 152, step 152, back 152, write 56)
  * [/measured]
  */
@@ -31,11 +31,11 @@
 #include <stdint.h>
 
 /* The version of this header and its library. MAJOR moves where a correct caller may have to change, MINOR where functions or numbers are
- * added. */
+ * added. MINOR moves as well where a refusal gets another limit: a correct caller handles its number already. */
 #define STATION_VERSION_MAJOR 1
-#define STATION_VERSION_MINOR 2
+#define STATION_VERSION_MINOR 3
 #define STATION_VERSION_PATCH 0
-#define STATION_VERSION "1.2.0"
+#define STATION_VERSION "1.3.0"
 
 /* Asks gcc and clang to warn where an answer is dropped or a null pointer is handed over; nothing to other compilers. */
 #if defined(__GNUC__)
@@ -57,7 +57,7 @@ enum {
     STATION_POINTS = 4,   /* N4: over 512 waypoints, or fewer than 2, closed: fewer than 3 */
     STATION_SIZE = 5,     /* N5: too many or too few bytes for that kind and N (8 + 2L + 12N; held: 24 more), or elements (G3) */
     STATION_LEG = 6,      /* N6: a leg of 0 or over 256 ticks */
-    STATION_REACH = 7,    /* N7: a waypoint over 1,000,000 mm from home on some axis */
+    STATION_REACH = 7,    /* N7: a waypoint's north or east over 1,000,000 mm in size, or its up not from -50,000 to 120,000 mm */
     STATION_SLOPE = 8,    /* N8: a slope over 5,000 mm per tick in size */
     STATION_SHELF = 9,    /* N9: the list is shorter than 3N */
     STATION_PAST = 10,    /* N10: the tick is over P, on an open course */

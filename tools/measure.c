@@ -156,9 +156,10 @@ static void measure(uint64_t at, uint64_t leg, uint64_t offset, uint64_t wanted)
         }
 }
 
-/* Makes the lists of a course whose waypoints swing between the limits; answers P. */
+/* Makes the lists of a course whose waypoints swing between each axis' own limits; answers P. */
 static uint64_t make_lists(uint64_t kind, size_t n)
 {
+    static const int64_t least[] = {-1000000, -1000000, -50000}, most[] = {1000000, 1000000, 120000};
     uint64_t ticks = 0;
     lists.kind = kind;
     lists.legs_length = kind == STATION_CLOSED ? n : n - 1;
@@ -169,7 +170,7 @@ static uint64_t make_lists(uint64_t kind, size_t n)
         ticks += legs[i];
     }
     for (size_t i = 0; i < lists.waypoints_length; i++)
-        waypoints[i] = i % 2 ? 1000000 : -1000000;
+        waypoints[i] = i % 2 ? most[i % 3] : least[i % 3];
     for (size_t i = 0; i < lists.slopes_length; i++)
         slopes[i] = i % 2 ? 5000 : -5000;
     return ticks;

@@ -36,6 +36,14 @@ static int64_t slope_at(const struct course *c, uint64_t end, uint64_t axis)
     return (int32_t)be32(c->slopes + 12 * end + 4 * axis);
 }
 
+/* Test 7 of one number of a waypoint. */
+static int is_beyond_reach(uint64_t axis, int64_t value)
+{
+    if (axis == 2)
+        return value < -50000 || value > 120000;
+    return value < -1000000 || value > 1000000;
+}
+
 static uint64_t read_course(const uint8_t *s, size_t length, struct course *c)
 {
     if (length < 8 || be32(s) != length)
@@ -62,11 +70,9 @@ static uint64_t read_course(const uint8_t *s, size_t length, struct course *c)
         c->ticks += leg;
     }
     for (uint64_t i = 0; i < c->n; i++)
-        for (uint64_t axis = 0; axis < 3; axis++) {
-            int64_t value = value_at(c, i, axis);
-            if (value < -1000000 || value > 1000000)
+        for (uint64_t axis = 0; axis < 3; axis++)
+            if (is_beyond_reach(axis, value_at(c, i, axis)))
                 return STATION_REACH;
-        }
     if (c->kind == STATION_HELD)
         for (uint64_t end = 0; end < 2; end++)
             for (uint64_t axis = 0; axis < 3; axis++) {
@@ -192,10 +198,19 @@ static int some_leg_bad(const uint64_t *legs, size_t count)
     return 0;
 }
 
-static int some_number_over(const int64_t *numbers, size_t count, int64_t limit)
+static int some_waypoint_bad(const int64_t *waypoints, size_t n)
+{
+    for (size_t i = 0; i < n; i++)
+        for (size_t axis = 0; axis < 3; axis++)
+            if (is_beyond_reach(axis, waypoints[3 * i + axis]))
+                return 1;
+    return 0;
+}
+
+static int some_slope_bad(const int64_t *slopes, size_t count)
 {
     for (size_t i = 0; i < count; i++)
-        if (numbers[i] < -limit || numbers[i] > limit)
+        if (slopes[i] < -5000 || slopes[i] > 5000)
             return 1;
     return 0;
 }

@@ -1,4 +1,4 @@
-/* The eight calls of include/station.h over nine parts, which base.c and careful.c write each in its own way. The file that includes this
+/* The eight calls of include/station.h over ten parts, which base.c and careful.c write each in its own way. The file that includes this
  * one says by NAME what its calls are called. ROOM and NO_RUNNER are the answers where a lent slice is too short, from src/room.rs;
  * nothing is written into it then. */
 #include "station.h"
@@ -20,8 +20,10 @@ static uint64_t leg_length(const struct course *c, uint64_t leg);
 static uint64_t place(const struct course *c, const int64_t *list, uint64_t leg, uint64_t offset, int64_t *out, size_t out_length);
 /* Test 6 over a list of legs: whether it applies. */
 static int some_leg_bad(const uint64_t *legs, size_t count);
-/* Tests 7 and 8: whether some number of a list is over the limit in size. */
-static int some_number_over(const int64_t *numbers, size_t count, int64_t limit);
+/* Test 7 over n waypoints of three numbers. */
+static int some_waypoint_bad(const int64_t *waypoints, size_t n);
+/* Test 8 over a list of slopes. */
+static int some_slope_bad(const int64_t *slopes, size_t count);
 /* Two bytes for each leg (S6); then where they end. */
 static uint8_t *put_legs(uint8_t *p, const uint64_t *legs, size_t count);
 /* Four bytes for each number (S7, S8); then where they end. */
@@ -182,9 +184,9 @@ uint64_t NAME(write)(uint64_t kind, const uint64_t *legs, size_t legs_length, co
         return STATION_SIZE;
     if (some_leg_bad(legs, legs_length))
         return STATION_LEG;
-    if (some_number_over(waypoints, waypoints_length, 1000000))
+    if (some_waypoint_bad(waypoints, n))
         return STATION_REACH;
-    if (some_number_over(slopes, slopes_length, 5000))
+    if (some_slope_bad(slopes, slopes_length))
         return STATION_SLOPE;
     size_t length = 8 + 2 * legs_length + 12 * n + 4 * slopes_length;
     if (sheet_length < length)

@@ -54,7 +54,7 @@ static uint64_t read_course(const uint8_t *s, size_t length, struct course *c)
     for (const uint8_t *p = points; p < slopes; p += 12) {
         bad |= be32(p) + 1000000 > 2000000;
         bad |= be32(p + 4) + 1000000 > 2000000;
-        bad |= be32(p + 8) + 1000000 > 2000000;
+        bad |= be32(p + 8) + 50000 > 170000;
     }
     if (bad)
         return STATION_REACH;
@@ -201,13 +201,29 @@ static int some_leg_bad(const uint64_t *legs, size_t count)
     return bits > 255;
 }
 
-static int some_number_over(const int64_t *numbers, size_t count, int64_t limit)
+/* The sign's bit is set where a number is below -low or over high. */
+static inline uint64_t signs(int64_t number, uint64_t low, uint64_t high)
 {
-    /* over the limit, one of the two has the sign's bit */
-    uint64_t signs = 0, most = (uint64_t)limit;
+    return (low + (uint64_t)number) | (high - (uint64_t)number);
+}
+
+static int some_waypoint_bad(const int64_t *waypoints, size_t n)
+{
+    uint64_t bad = 0;
+    for (size_t i = 0; i < n; i++) {
+        bad |= signs(waypoints[3 * i], 1000000, 1000000);
+        bad |= signs(waypoints[3 * i + 1], 1000000, 1000000);
+        bad |= signs(waypoints[3 * i + 2], 50000, 120000);
+    }
+    return bad >> 63;
+}
+
+static int some_slope_bad(const int64_t *slopes, size_t count)
+{
+    uint64_t bad = 0;
     for (size_t i = 0; i < count; i++)
-        signs |= (most + (uint64_t)numbers[i]) | (most - (uint64_t)numbers[i]);
-    return signs >> 63;
+        bad |= signs(slopes[i], 5000, 5000);
+    return bad >> 63;
 }
 
 static uint8_t *put_legs(uint8_t *restrict p, const uint64_t *restrict legs, size_t count)

@@ -2,7 +2,7 @@
 
 use crate::model::{Kind, Lists};
 use crate::random::Random;
-use crate::sheets::{place_in, Draft};
+use crate::sheets::{limits_to_try, place_in, Draft};
 
 /// A draft's fields as lists.
 pub fn of_draft(draft: &Draft) -> Lists {
@@ -19,14 +19,14 @@ pub fn changed(random: &mut Random, lists: &Lists) -> Lists {
     let mut lists = lists.clone();
     for _ in 0..random.pick(&[1, 1, 1, 2, 3]) {
         match random.below(16) {
-            0..=3 => change(random, &mut lists.legs, leg),
-            4..=7 => change(random, &mut lists.waypoints, |random| around(random, 1_000_000)),
+            0..=3 => change(random, &mut lists.legs, |random, _| leg(random)),
+            4..=7 => change(random, &mut lists.waypoints, waypoint),
             8..=10 => {
                 if lists.slopes.is_empty() {
                     lists.kind = Kind::Held as u64;
                     fit(random, &mut lists);
                 }
-                change(random, &mut lists.slopes, |random| around(random, 5_000));
+                change(random, &mut lists.slopes, |random, _| around(random, [-5_000, 5_000]));
             }
             11 => {
                 lists.kind = random.pick(&[0, 1, 2, 3, 4, 255, 256, 257, 258, 1 << 16, 1 << 32, 1 << 63, u64::MAX]);
@@ -48,10 +48,11 @@ pub fn changed(random: &mut Random, lists: &Lists) -> Lists {
     lists
 }
 
-/// Changes an element: the first, the last, or any.
-fn change<T>(random: &mut Random, list: &mut [T], make: impl FnOnce(&mut Random) -> T) {
+/// Changes an element, the first, the last, or any, to one that is made for its place in the list.
+fn change<T>(random: &mut Random, list: &mut [T], make: impl FnOnce(&mut Random, usize) -> T) {
     if !list.is_empty() {
-        list[place_in(random, list.len())] = make(random);
+        let i = place_in(random, list.len());
+        list[i] = make(random, i);
     }
 }
 
@@ -61,12 +62,19 @@ fn leg(random: &mut Random) -> u64 {
     random.pick(&[0, 1, 256, 257, 65_535, lost, lost, u64::MAX])
 }
 
-/// A number around a limit or its negative, or one within it but for a bit that four bytes would lose, or one of the largest.
-fn around(random: &mut Random, limit: i64) -> i64 {
-    let near = limit + random.between(-1, 1);
-    let lost = random.between(-limit, limit) ^ random.pick(&[1 << 32, 1 << 33, i64::MIN]);
+/// A waypoint number for a place in its list, by the limits of its axis.
+fn waypoint(random: &mut Random, i: usize) -> i64 {
+    let limits = limits_to_try(random, i % 3);
+    around(random, limits.map(i64::from))
+}
+
+/// A number around two limits, or one within them but for a bit that four bytes would lose, or one of the largest.
+fn around(random: &mut Random, [least, most]: [i64; 2]) -> i64 {
+    let off = random.between(-1, 1);
+    let (low, high) = (least + off, most + off);
+    let lost = random.between(least, most) ^ random.pick(&[1 << 32, 1 << 33, i64::MIN]);
     let any = random.word() as i64;
-    random.pick(&[near, -near, near, -near, lost, lost, any, i64::MIN, i64::MAX, i32::MIN.into(), i32::MAX.into()])
+    random.pick(&[low, high, low, high, lost, lost, any, i64::MIN, i64::MAX, i32::MIN.into(), i32::MAX.into()])
 }
 
 /// An element or two more or fewer, none, or six.

@@ -39,6 +39,9 @@ pub enum Kind {
 /// N4: the most waypoints.
 pub const MOST_POINTS: usize = 512;
 
+/// N7: a waypoint's least and greatest number on north, east and up.
+pub const REACH_LIMITS: [[i128; 2]; 3] = [[-1_000_000, 1_000_000], [-1_000_000, 1_000_000], [-50_000, 120_000]];
+
 impl Kind {
     pub const ALL: [Kind; 3] = [Kind::Free, Kind::Held, Kind::Closed];
 
@@ -169,7 +172,8 @@ impl Course {
         if self.legs.iter().any(|leg| *leg < 1 || *leg > 256) {
             return Err(LEG);
         }
-        if self.points.iter().flatten().any(|value| *value < -1_000_000 || *value > 1_000_000) {
+        let beyond = |point: &[i128; 3]| (0..3).any(|axis| point[axis] < REACH_LIMITS[axis][0] || point[axis] > REACH_LIMITS[axis][1]);
+        if self.points.iter().any(beyond) {
             return Err(REACH);
         }
         if self.slopes.iter().flatten().any(|slope| *slope < -5_000 || *slope > 5_000) {

@@ -1,5 +1,6 @@
 //! Sheets to try: accepted ones of all kinds, ones at the edge of each field's range, damaged ones.
 
+use crate::model::REACH_LIMITS;
 use crate::random::Random;
 
 pub const FREE: u8 = 0;
@@ -78,6 +79,22 @@ pub fn accepted(random: &mut Random) -> Draft {
     of_size(random, kind, n)
 }
 
+/// N7: the least and the greatest number of a waypoint on an axis.
+pub fn limits(axis: usize) -> [i32; 2] {
+    REACH_LIMITS[axis].map(|limit| limit as i32)
+}
+
+/// The limits to try on an axis: its own, now and then another's, so that axes which are mixed up are noticed.
+pub fn limits_to_try(random: &mut Random, axis: usize) -> [i32; 2] {
+    limits(if random.once_in(4) { random.below(3) } else { axis })
+}
+
+/// Any number within an axis' limits.
+pub fn within(random: &mut Random, axis: usize) -> i32 {
+    let [least, most] = limits(axis);
+    random.between(least.into(), most.into()) as i32
+}
+
 /// An accepted sheet with this kind and number of waypoints: legs alike, mixed, at the limits, short, growing; values spread, at the
 /// limits, turning, small, along a line, or alike; a chain now and then.
 pub fn of_size(random: &mut Random, kind: u8, n: usize) -> Draft {
@@ -97,23 +114,20 @@ pub fn of_size(random: &mut Random, kind: u8, n: usize) -> Draft {
             _ => 1 << (i % 9),
         })
         .collect();
-    let styles = [random.below(7), random.below(7), random.below(7)];
-    let points = (0..n)
-        .map(|i| {
-            let mut point = [0; 3];
-            for axis in 0..3 {
-                point[axis] = match styles[axis] {
-                    0 | 1 => random.between(-1_000_000, 1_000_000) as i32,
-                    2 => random.pick(&[-1_000_000, 1_000_000]),
-                    3 => [1_000_000, -1_000_000][i % 2],
-                    4 => random.between(-20, 20) as i32,
-                    5 => i as i32 * 1_900 - 480_000,
-                    _ => alike.into(),
-                }
+    let mut points = vec![[0; 3]; n];
+    for axis in 0..3 {
+        let (style, [least, most]) = (random.below(7), limits(axis));
+        for (i, point) in points.iter_mut().enumerate() {
+            point[axis] = match style {
+                0 | 1 => within(random, axis),
+                2 => random.pick(&[least, most]),
+                3 => [most, least][i % 2],
+                4 => random.between(-20, 20) as i32,
+                5 => least + i as i32 * ((most - least) / 512),
+                _ => alike.into(),
             }
-            point
-        })
-        .collect();
+        }
+    }
     let most = random.pick(&[0, 7, 5_000]);
     let slopes = (0..if kind == HELD { 6 } else { 0 })
         .map(|_| if random.once_in(3) { random.pick(&[-5_000, 5_000]) } else { random.between(-most, most) as i32 })
@@ -124,16 +138,18 @@ pub fn of_size(random: &mut Random, kind: u8, n: usize) -> Draft {
 /// A free course on which every one of the 40 passes changes a number, and so would the 41st and 42nd: it ends in a chain of 43 waypoints
 /// on which a change of one travels back from the last one, by one waypoint a pass. Legs there are 256, so that a row is
 /// 4 × Z(i) = d - e - Z(i-1) - Z(i+1), and d - e turns between -2 (just rounded up to 0) and 1 (just rounded down to 0). Of the last
-/// `tail` waypoints those before the chain go straight, so that it is not disturbed; before them legs are mixed and values spread.
+/// `tail` waypoints those before the chain go straight, so that it is not disturbed; before them legs are mixed and values spread. The
+/// tail begins so far inside the limits that its steps, at most 511 of at most 121, do not leave them.
 pub fn chain(random: &mut Random, n: usize, tail: usize) -> Draft {
     let spread = n - tail;
     let legs = (0..n - 1).map(|i| if i < spread { random.between(1, 256) as u16 } else { 256 }).collect();
     let mut points = vec![[0; 3]; n];
     for axis in 0..3 {
         for point in &mut points[..spread] {
-            point[axis] = random.between(-1_000_000, 1_000_000) as i32;
+            point[axis] = within(random, axis);
         }
-        let mut value = random.between(-700_000, 700_000) as i32;
+        let [least, most] = limits(axis);
+        let mut value = random.between(i64::from(least) + 62_000, i64::from(most) - 62_000) as i32;
         let mut step = random.between(-100, 100) as i32;
         for (i, point) in points.iter_mut().enumerate().skip(spread) {
             point[axis] = value;
@@ -177,16 +193,16 @@ fn move_field(random: &mut Random, draft: &mut Draft, field: usize) {
         }
         4..=8 if !draft.points.is_empty() => {
             let i = place_in(random, draft.points.len());
-            let limit = random.pick(&[1_000_000, 1_000_000, i32::MAX]);
-            draft.points[i][random.below(3)] = around_limit(random, limit);
+            let axis = random.below(3);
+            let limits = limits_to_try(random, axis);
+            draft.points[i][axis] = around(random, limits);
         }
         9..=11 => {
             if draft.slopes.is_empty() {
                 draft.kind = HELD;
                 draft.fit(random);
             }
-            let limit = random.pick(&[5_000, 5_000, i32::MAX]);
-            draft.slopes[random.below(6)] = around_limit(random, limit);
+            draft.slopes[random.below(6)] = around(random, [-5_000, 5_000]);
         }
         12 => {
             draft.kind = random.pick(&[0, 1, 2, 3, 4, 128, 255]);
@@ -217,14 +233,13 @@ pub fn place_in(random: &mut Random, length: usize) -> usize {
     random.pick(&[0, length - 1, any, any])
 }
 
-/// One of the numbers around a limit or its negative, both sides, and now and then any number.
-fn around_limit(random: &mut Random, limit: i32) -> i32 {
-    let off = random.between(-1, 1) as i32;
-    let near = limit.wrapping_add(off);
+/// One of the numbers around two limits, or around the ends of four bytes, both sides, and now and then any number.
+fn around(random: &mut Random, [least, most]: [i32; 2]) -> i32 {
     if random.once_in(8) {
         return random.word() as i32;
     }
-    random.pick(&[near, near.wrapping_neg()])
+    let limit = random.pick(&[least, most, least, most, i32::MIN, i32::MAX]);
+    limit.wrapping_add(random.between(-1, 1) as i32)
 }
 
 /// A sheet damaged on the way, or no sheet at all.

@@ -215,13 +215,13 @@ impl Call {
     }
 }
 
-/// Values spread over the whole range, on all axes.
+/// Values spread over the whole range of each axis.
 fn spread(random: &mut Random, kind: u8, n: usize, leg: impl Fn(&mut Random) -> u16) -> Draft {
     let l = if kind == CLOSED { n } else { n - 1 };
     let legs: Vec<u16> = (0..l).map(|_| leg(random)).collect();
     let mut draft = Draft::of(kind, &legs, &vec![0; n], None);
-    for value in draft.points.iter_mut().flatten() {
-        *value = random.between(-1_000_000, 1_000_000) as i32;
+    for point in &mut draft.points {
+        *point = [0, 1, 2].map(|axis| sheets::within(random, axis));
     }
     draft
 }

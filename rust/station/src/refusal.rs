@@ -27,7 +27,7 @@ pub enum Refusal {
     Size,
     /// N6: a leg of 0 or over 256 ticks.
     Leg,
-    /// N7: a waypoint over 1,000,000 mm from home on some axis.
+    /// N7: a waypoint's north or east over 1,000,000 mm in size, or its up not from -50,000 to 120,000 mm.
     Reach,
     /// N8: a slope over 5,000 mm per tick in size.
     Slope,

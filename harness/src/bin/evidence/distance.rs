@@ -147,10 +147,15 @@ fn generated(random: &mut Random) -> Draft {
 fn tense(random: &mut Random) -> Draft {
     let n = random.between(2, 12) as usize;
     let legs: Vec<u16> = (0..n - 1).map(|_| random.pick(&[1, 1, 2, 255, 256])).collect();
-    let values: Vec<i32> =
-        (0..n).map(|i| [-1_000_000, 1_000_000][i % 2] + random.between(-3, 3) as i32 * (1 - 2 * (i as i32 % 2))).collect();
-    let values: Vec<i32> = values.iter().map(|value| (*value).clamp(-1_000_000, 1_000_000)).collect();
-    Draft::of(HELD, &legs, &values, Some([random.pick(&[-5_000, 5_000]), random.pick(&[-5_000, 4_999])]))
+    let slopes = [random.pick(&[-5_000, 5_000]), random.pick(&[-5_000, 4_999])];
+    let mut draft = Draft::of(HELD, &legs, &vec![0; n], Some(slopes));
+    for (i, point) in draft.points.iter_mut().enumerate() {
+        for (axis, value) in point.iter_mut().enumerate() {
+            let ([least, most], inside) = (sheets::limits(axis), random.between(-3, 3).max(0) as i32);
+            *value = [least + inside, most - inside][i % 2];
+        }
+    }
+    draft
 }
 
 /// D3 in exact arithmetic on small courses of the three kinds in turn: the spline has its properties, every tick has its place, bend

@@ -12,6 +12,8 @@ use harness::sheets;
 
 pub fn run(options: &Options, comparison: &mut Comparison) {
     comparison.part = Part::Calls;
+    // these sheets have to reach every number themselves, whatever the worked ones reached
+    (comparison.answers, comparison.without_room) = ([[0; WORDS.len()]; NAMES.len()], 0);
     let (stand, mut of_kind) = (comparison.stand, [0_u64; 3]);
     for case in options.first..options.first.saturating_add(options.cases) {
         comparison.case = case;

@@ -3,6 +3,7 @@
 use crate::compare::Comparison;
 use crate::parts::Part;
 use harness::boundary::{Call, Lent};
+use harness::lists::of_draft;
 use harness::model::Lists;
 use harness::random::Random;
 use harness::sheets::{chain, Draft, CLOSED, FREE, HELD};
@@ -27,7 +28,11 @@ pub fn courses() -> Vec<Worked> {
 
 /// W10: sheets with what reading them answers.
 fn read_or_refused() -> Vec<(Vec<u8>, u64)> {
-    let pair = |leg, north| Draft::of(FREE, &[leg], &[0, north], None).bytes();
+    let pair = |leg, north| {
+        let mut draft = Draft::of(FREE, &[leg], &[0, 0], None);
+        draft.points[1][0] = north;
+        draft.bytes()
+    };
     let alike = |kind, n: usize, l| Draft::of(kind, &vec![1; l], &vec![0; n], if kind == HELD { Some([0, 0]) } else { None }).bytes();
     vec![
         (pair(256, 0), 0),
@@ -44,6 +49,29 @@ fn read_or_refused() -> Vec<(Vec<u8>, u64)> {
         (vec![], 1),
     ]
 }
+
+/// W14: the leg of a held course from the home post to a waypoint, its north, east and up, all six slopes, and the answer to reading its
+/// sheet and to writing its lists.
+const REACHES: [(u16, [i32; 3], i32, u64); 17] = [
+    (1, [1_000_000, 0, 0], 0, 0),
+    (1, [1_000_001, 0, 0], 0, 7),
+    (1, [-1_000_000, 0, 0], 0, 0),
+    (1, [-1_000_001, 0, 0], 0, 7),
+    (1, [0, 1_000_000, 0], 0, 0),
+    (1, [0, 1_000_001, 0], 0, 7),
+    (1, [0, -1_000_000, 0], 0, 0),
+    (1, [0, -1_000_001, 0], 0, 7),
+    (1, [0, 0, 120_000], 0, 0),
+    (1, [0, 0, 120_001], 0, 7),
+    (1, [0, 0, -50_000], 0, 0),
+    (1, [0, 0, -50_001], 0, 7),
+    (1, [1_000_000, -1_000_000, 120_000], 5_000, 0),
+    (1, [-1_000_000, 1_000_000, -50_000], -5_000, 0),
+    // 6 before 7, 7 before 8
+    (0, [0, 0, 120_001], 0, 6),
+    (0, [0, 0, -50_001], 5_001, 6),
+    (1, [0, 0, 120_001], 5_001, 7),
+];
 
 /// Compares a call, then what the model left with the figures.
 fn expect(
@@ -94,6 +122,7 @@ pub fn run(comparison: &mut Comparison) {
         expect(comparison, &Call::PlaceAtTick { tick: tick as u64 }, &a, &before, wanted.to_string(), place);
     }
     refusals_and_far_tick(comparison);
+    reaching(comparison);
     writing(comparison);
     going_back(comparison);
     println!("worked courses: {} comparisons with the figures of group W", comparison.tally.compared(Part::Worked));
@@ -114,6 +143,30 @@ fn refusals_and_far_tick(comparison: &mut Comparison) {
     }
 }
 
+/// W14: reading a sheet of 58 bytes, and writing it from its lists into 60.
+fn reaching(comparison: &mut Comparison) {
+    let before = Lent { words: vec![u64::MAX; 3], page: vec![0xee; 60], ..Lent::default() };
+    for (leg, waypoint, slope, refusal) in REACHES {
+        let mut draft = Draft::of(HELD, &[leg], &[0, 0], Some([slope, slope]));
+        draft.points[1] = waypoint;
+        let (sheet, call) = (draft.bytes(), Call::Write(of_draft(&draft)));
+        let read = if refusal == 0 { "0 [1, 2, 1]".to_string() } else { format!("{refusal} {:?}", [u64::MAX; 3]) };
+        expect(comparison, &Call::Read, &sheet, &before, read, |answer, after| format!("{answer} {:?}", after.words));
+        let page = if refusal == 0 { format!("0 58 {}eeee", digits(&sheet)) } else { format!("{refusal} -1 {}", "ee".repeat(60)) };
+        expect(comparison, &call, &[], &before, page, written_page);
+    }
+}
+
+/// Bytes as digits.
+fn digits(bytes: &[u8]) -> String {
+    bytes.iter().map(|byte| format!("{byte:02x}")).collect()
+}
+
+/// An answer, the length that it leaves, and the page.
+fn written_page(answer: u64, after: &Lent) -> String {
+    format!("{answer} {} {}", after.words[0] as i64, digits(&after.page))
+}
+
 /// W12: course A from its lists; and lists at the edges of G3 and G4.
 fn writing(comparison: &mut Comparison) {
     const SHEET: &str = "000000300100000300020002000000000000000a00000014000000080000000a00000016000000000000000a00000018";
@@ -121,10 +174,7 @@ fn writing(comparison: &mut Comparison) {
     let mut written = |kind: u64, legs: &[u64], waypoints: &[i64], page: usize, wanted: &str| {
         let call = Call::Write(Lists { kind, legs: legs.to_vec(), waypoints: waypoints.to_vec(), slopes: vec![] });
         let before = Lent { words: vec![u64::MAX; 3], page: vec![0xee; page], ..Lent::default() };
-        expect(comparison, &call, &[], &before, wanted.to_string(), |answer, after| {
-            let digits: String = after.page.iter().map(|byte| format!("{byte:02x}")).collect();
-            format!("{answer} {} {digits}", after.words[0] as i64)
-        });
+        expect(comparison, &call, &[], &before, wanted.to_string(), written_page);
     };
     written(0, &[2, 2], &a, 48, &format!("0 48 {SHEET}"));
     written(0, &[2, 2], &a, 50, &format!("0 48 {SHEET}eeee"));

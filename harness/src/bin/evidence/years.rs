@@ -15,7 +15,9 @@ const TEN_YEARS: u64 = 3_155_760_000;
 
 pub fn run(options: &Options, comparison: &mut Comparison) {
     let mut random = Random::new(options.seed ^ 3);
-    let triangle = Draft::of(CLOSED, &[7, 1, 256], &[0, 1_000_000, -30], None).bytes();
+    let mut triangle = Draft::of(CLOSED, &[7, 1, 256], &[0, 0, -30], None);
+    triangle.points[1] = [1_000_000, -1_000_000, 120_000];
+    let triangle = triangle.bytes();
     let large = sheets::of_size(&mut random, CLOSED, 512).bytes();
 
     comparison.part = Part::FarTicks;
