@@ -23,25 +23,8 @@ pub fn run(options: &Options, comparison: &mut Comparison) {
         }
         // the structs and the C files of the benchmark on every fourth sheet
         comparison.implementations = if case % 4 == 0 { &ALL } else { &ALL[..1] };
-        let sheet = match random.below(10) {
-            0..=3 => sheets::accepted(&mut random).bytes(),
-            4..=6 => sheets::at_edges(&mut random),
-            _ => sheets::damaged(&mut random),
-        };
         let before = comparison.tally.differences();
-        let (lists, accepted) = match model::read(&sheet) {
-            Ok(course) => {
-                of_kind[course.kind as usize] += 1;
-                on_accepted(&mut random, comparison, &sheet, &course);
-                (course.lists(), sheet)
-            }
-            Err(_) => {
-                on_refused(&mut random, comparison, &sheet);
-                let draft = sheets::accepted(&mut random);
-                (lists::of_draft(&draft), draft.bytes())
-            }
-        };
-        writes::run(&mut random, comparison, &lists, &accepted);
+        one_sheet(&mut random, comparison, &mut of_kind);
         if comparison.tally.differences() > before && before < 10 {
             println!("  (case {case} of seed {})", options.seed);
         }
@@ -56,6 +39,28 @@ pub fn run(options: &Options, comparison: &mut Comparison) {
         comparison.require(!all || count > 0, || format!("no accepted sheet was {kind:?}"));
     }
     coverage(comparison, all);
+}
+
+/// One sheet on every call, and its lists, or those of another sheet where it is refused.
+fn one_sheet(random: &mut Random, comparison: &mut Comparison, of_kind: &mut [u64; 3]) {
+    let sheet = match random.below(10) {
+        0..=3 => sheets::accepted(random).bytes(),
+        4..=6 => sheets::at_edges(random),
+        _ => sheets::damaged(random),
+    };
+    let (lists, accepted) = match model::read(&sheet) {
+        Ok(course) => {
+            of_kind[course.kind as usize] += 1;
+            on_accepted(random, comparison, &sheet, &course);
+            (course.lists(), sheet)
+        }
+        Err(_) => {
+            on_refused(random, comparison, &sheet);
+            let draft = sheets::accepted(random);
+            (lists::of_draft(&draft), draft.bytes())
+        }
+    };
+    writes::run(random, comparison, &lists, &accepted);
 }
 
 /// What is lent, filled with numbers that a call must replace or leave.
