@@ -1,5 +1,5 @@
 -- The one proof of all claims: it names each theorem.
-use Rattle.sheet.proofs.Laws.{read-or-refused, read-accepted, accepted-bounds}
+use Rattle.sheet.proofs.Laws.{read-or-refused, read-accepted, accepted-bounds, heights-kept}
 use Rattle.lists.proofs.Worked.{answers-tried}
 use Rattle.writer.proofs.Worked.{sheet-tried}
 use Rattle.written.proofs.Accepted.{written-accepted}
@@ -46,6 +46,7 @@ claims = record {
   };
   demand2 = record {
     accepted-bounds = accepted-bounds;
+    heights-kept = heights-kept;
     longest = longest;
     step-before = step-before;
     back-behind = back-behind;

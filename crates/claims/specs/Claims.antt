@@ -1,6 +1,6 @@
 -- Every theorem that docs/CLAIMS.md claims: a field for each, its type the statement, in the order of docs/REQUIREMENTS.md. The three demands are
 -- three records; demand 3 is `Claim`. The one proof is proofs/Claims.antt, so that a statement that loses its proof breaks the gate.
-use Rattle.sheet.specs.Theorems.{ReadOrRefused, ReadAccepted, AcceptedBounds}
+use Rattle.sheet.specs.Theorems.{ReadOrRefused, ReadAccepted, AcceptedBounds, HeightsKept}
 use Rattle.lists.specs.Worked.{AnswersTried}
 use Rattle.writer.specs.Worked.{SheetTried}
 use Rattle.written.specs.Theorems.{WrittenAccepted, WrittenAgain}
@@ -36,6 +36,8 @@ pub record Demand1 : Type 0 where
 pub record Demand2 : Type 0 where
   -- S9, N4 to N8: the bounds of an accepted sheet
   pub accepted-bounds : AcceptedBounds
+  -- N7: the permit's heights
+  pub heights-kept : HeightsKept
   pub longest : Longest
   -- N13, K7: landed is said at the last tick alone
   pub step-before : StepBefore

@@ -17,7 +17,7 @@ use Rattle.sheet.specs.Answers.{numberOf, told}
 use Rattle.sheet.specs.Bytes.{anyBelow}
 use Rattle.sheet.specs.Fields.{kind, points, legs, leg, ticks, waypoint, slope, sheetLength}
 use Rattle.sheet.specs.Reading.{Accepted, legOutside, reachOutside, slopeOutside, slopesOutside, applies, lowest, mostPoints, longestSheet, readBy, readSheet}
-use Rattle.sheet.specs.Theorems.{ReadOrRefused, ReadAccepted, AcceptedBounds}
+use Rattle.sheet.specs.Theorems.{ReadOrRefused, ReadAccepted, AcceptedBounds, HeightsKept}
 use Rattle.sheet.specs.declared.Refusal.{Refusal}
 use Rattle.sheet.specs.declared.Refusal.the-variants.{Torn, Edition, Ends, Points, Size, Leg, Reach, Slope, Shelf, Past, Adrift, Bend, Landed, Page, Start}
 use Rattle.sheet.specs.declared.Reading.{Reading}
@@ -176,10 +176,13 @@ accepted-bounds s a = record {
   leg-low = leg-low s a;
   leg-high = leg-high s a;
   reach = λ axis i h k. reach-size axis (waypoint s axis i) (reach-within s a axis i h k);
-  floor = λ i k. within-floor 50_000 120_000 (waypoint s 2 i) (reach-within s a 2 i (omega arith) k);
-  ceiling = λ i k. within-ceiling 50_000 120_000 (waypoint s 2 i) (reach-within s a 2 i (omega arith) k);
   slope = slope-within s a;
   longest = longest s a;
   some-ticks = some-ticks s a;
   few-ticks = few-ticks s a;
 }
+
+pub heights-kept : HeightsKept
+heights-kept s a i k =
+    let within = reach-within s a 2 i (omega arith) k in
+    (within-floor 50_000 120_000 (waypoint s 2 i) within, within-ceiling 50_000 120_000 (waypoint s 2 i) within)

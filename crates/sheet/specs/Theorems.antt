@@ -30,7 +30,7 @@ ReadOrRefused = (s : List ℕ) → (Accepted s × (readSheet s ≡ Course (kind 
 abbrev pub ReadAccepted : Type 0
 ReadAccepted = (s : List ℕ) (k : EndKind) (n p : ℕ) → readSheet s ≡ Course k n p → Accepted s × (k ≡ kind s) × (n ≡ points s) × (p ≡ ticks s)
 
--- the bounds of an accepted sheet (N4 to N8), and those of P and of the length that follow
+-- the bounds of an accepted sheet (N4 to N8), and those of P and of the length that follow. Of reach it is the wide span, which serves all axes.
 pub record Bounds (s : List ℕ) : Type 0 where
   pub enough : leastPoints (kind s) ≤ points s
   pub few : points s ≤ mostPoints
@@ -38,8 +38,6 @@ pub record Bounds (s : List ℕ) : Type 0 where
   pub leg-low : (i : ℕ) → i < legs s → 1 ≤ leg s i
   pub leg-high : (i : ℕ) → i < legs s → leg s i ≤ 256
   pub reach : (axis i : ℕ) → axis < 3 → i < points s → natAbs (waypoint s axis i) ≤ 1_000_000
-  pub floor : (i : ℕ) → i < points s → negℤ (pos 50_000) ≤ℤ waypoint s 2 i
-  pub ceiling : (i : ℕ) → i < points s → waypoint s 2 i ≤ℤ pos 120_000
   pub slope : (axis side : ℕ) → axis < 3 → side < 2 → kind s ≡ Held → natAbs (slope s axis side) ≤ 5_000
   pub longest : length s ≤ longestSheet
   pub some-ticks : 1 ≤ ticks s
@@ -47,3 +45,7 @@ pub record Bounds (s : List ℕ) : Type 0 where
 
 abbrev pub AcceptedBounds : Type 0
 AcceptedBounds = (s : List ℕ) → Accepted s → Bounds s
+
+-- N7: the waypoints of an accepted sheet lie between the permit's floor and its ceiling
+abbrev pub HeightsKept : Type 0
+HeightsKept = (s : List ℕ) → Accepted s → (i : ℕ) → i < points s → (negℤ (pos 50_000) ≤ℤ waypoint s 2 i) × (waypoint s 2 i ≤ℤ pos 120_000)
