@@ -12,14 +12,15 @@ use Rattle.integers.proofs.Order.{le-or-lt}
 use Rattle.sheet.specs.Answers.{numberOf, told, Told}
 use Rattle.sheet.specs.Fields.{kindOf}
 use Rattle.sheet.specs.declared.Refusal.{Refusal}
-use Rattle.sheet.specs.declared.Refusal.the-variants.{Torn, Edition, Ends, Points, Size, Leg, Reach, Slope, Shelf, Past, Adrift, Bend, Landed, Page, Start}
+use Rattle.sheet.specs.declared.Refusal.the-variants.{Torn, Edition, Ends, Points, Size, Leg, Reach, Slope, Shelf, Past, Adrift, Bend, Landed, Page, Start, Shut, Apart, Crowded}
 use Rattle.sheet.specs.declared.Reading.{Reading}
 use Rattle.sheet.specs.declared.Reading.the-variants.{Course, Refused}
 
 -- ---- back from a number; 0, which no refusal has, goes to the first
 refusalOf : ℕ → Refusal
 refusalOf n =
-    getD (Torn ∷ Edition ∷ Ends ∷ Points ∷ Size ∷ Leg ∷ Reach ∷ Slope ∷ Shelf ∷ Past ∷ Adrift ∷ Bend ∷ Landed ∷ Page ∷ Start ∷ []) (n - 1) Torn
+    getD (Torn ∷ Edition ∷ Ends ∷ Points ∷ Size ∷ Leg ∷ Reach ∷ Slope ∷ Shelf ∷ Past ∷ Adrift ∷ Bend ∷ Landed ∷ Page ∷ Start
+    ∷ Shut ∷ Apart ∷ Crowded ∷ []) (n - 1) Torn
 
 refusal-back : (r : Refusal) → refusalOf (numberOf r) ≡ r
 unfolding refusalOf
@@ -38,6 +39,9 @@ refusal-back Bend = refl
 refusal-back Landed = refl
 refusal-back Page = refl
 refusal-back Start = refl
+refusal-back Shut = refl
+refusal-back Apart = refl
+refusal-back Crowded = refl
 
 pub number-injective : (q r : Refusal) → numberOf q ≡ numberOf r → q ≡ r
 number-injective q r e = sym (refusal-back q) ∙ ap refusalOf e ∙ refusal-back r

@@ -25,7 +25,7 @@ pub const MOST_POINTS: usize = 512;
 // S9: the bytes of the longest sheet that is accepted.
 pub const LONGEST_SHEET: usize = 7198;
 
-// The refusals, in the order of their numbers (N1 to N15).
+// The refusals, in the order of their numbers (N1 to N18).
 pub enum Refusal {
     Torn,
     Edition,
@@ -42,6 +42,9 @@ pub enum Refusal {
     Landed,
     Page,
     Start,
+    Shut,
+    Apart,
+    Crowded,
 }
 
 // A2: reading's answer, the kind, N and P; or its refusal.

@@ -3,7 +3,7 @@ ghost use mathlib.Core.Path.{_≡_};
 ghost use Rattle.sheet.specs.Answers.{numberOf};
 use crate::Refusal;
 
-// N1 to N15.
+// N1 to N18.
 pub fn number_of(refusal: Refusal) -> u64
     ensures { λ r. ⌜ r ≡ numberOf refusal ⌝ }
 {
@@ -23,5 +23,8 @@ pub fn number_of(refusal: Refusal) -> u64
         Refusal::Landed => 13,
         Refusal::Page => 14,
         Refusal::Start => 15,
+        Refusal::Shut => 16,
+        Refusal::Apart => 17,
+        Refusal::Crowded => 18,
     }
 }

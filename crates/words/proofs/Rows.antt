@@ -7,7 +7,7 @@ use lib.ListN.{length, take, drop}
 use Rattle.bytes.specs.Bytes.{slice, indexAfter, indexOf}
 use Rattle.sheet.specs.Answers.{numberOf}
 use Rattle.sheet.specs.declared.Refusal.{Refusal}
-use Rattle.sheet.specs.declared.Refusal.the-variants.{Torn, Edition, Ends, Points, Size, Leg, Reach, Slope, Shelf, Past, Adrift, Bend, Landed, Page, Start}
+use Rattle.sheet.specs.declared.Refusal.the-variants.{Torn, Edition, Ends, Points, Size, Leg, Reach, Slope, Shelf, Past, Adrift, Bend, Landed, Page, Start, Shut, Apart, Crowded}
 use Rattle.sheet.proofs.Told.{number-positive}
 use Rattle.words.specs.Words.{refusalLine, refusalRows}
 
@@ -40,6 +40,9 @@ row-of Bend = (omega arith, omega arith, refl, refl)
 row-of Landed = (omega arith, omega arith, refl, refl)
 row-of Page = (omega arith, omega arith, refl, refl)
 row-of Start = (omega arith, omega arith, refl, refl)
+row-of Shut = (omega arith, omega arith, refl, refl)
+row-of Apart = (omega arith, omega arith, refl, refl)
+row-of Crowded = (omega arith, omega arith, refl, refl)
 
 -- under a hundred rows: the code's products fit
 few-rows : length refusalRows ≤ 19 * 99

@@ -34,6 +34,9 @@ pub fn put_refusal(out: &mut [u8], refusal: Refusal) -> usize
                  refused 12 bend\n   \
                  refused 13 landed\n \
                  refused 14 page\n   \
-                 refused 15 start\n  ";
+                 refused 15 start\n  \
+                 refused 16 shut\n   \
+                 refused 17 apart\n  \
+                 refused 18 crowded\n";
     put_row(rows, refusal, out)
 }
