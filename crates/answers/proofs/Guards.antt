@@ -1,13 +1,20 @@
 -- A call's tests and what it leaves, once for all calls: one test in its chain (specs/Answers), and what was lent, by its number (A9). For every later crate.
 use mathlib.Core.Path.{_≡_, refl, sym, ap, _∙_}
 use mathlib.Core.Bool.{Bool, true, false, cond}
+use mathlib.Core.List.{List}
+use mathlib.Core.Logic.{⊎-elim}
+use Prim.Native.Nat.{ℕ}
 use native.Mathlib.Omega.{arith}
 use lib.Dec.{eqb}
 use borrow.Author.Tests.{eq-eqb, ne-eqb}
-use Rattle.sheet.specs.Answers.{Told, refused}
+use Rattle.sheet.specs.Answers.{Told, told, refused}
+use Rattle.sheet.specs.Reading.{Accepted, readSheet}
+use Rattle.sheet.specs.declared.Reading.{Reading}
+use Rattle.sheet.specs.declared.Reading.the-variants as R
 use Rattle.sheet.specs.declared.Refusal.{Refusal}
-use Rattle.sheet.proofs.Told.{number-positive}
-use Rattle.answers.specs.Answers.{guard}
+use Rattle.sheet.proofs.Laws.{accepted-read, read-or-refused}
+use Rattle.sheet.proofs.Told.{number-positive, told-injective}
+use Rattle.answers.specs.Answers.{passOn, guard, Carries}
 
 pub never-zero : (r : Refusal) {X : Type 0} → refused r .number ≡ 0 → X
 never-zero r e = absurd (omega (arith, number-positive r))
@@ -22,6 +29,22 @@ passed b r rest e = sym (ap (λ (x : Bool). guard x r rest) e)
 pub not-refused : (b : Bool) (r : Refusal) (rest : Told) → guard b r rest .number ≡ 0 → (b ≡ false) × (rest .number ≡ 0)
 not-refused true r rest e = never-zero r e
 not-refused false r rest e = (refl, e)
+
+-- ---- reading in front of a call's tests (A8): its refusal as the code has it, an accepted sheet, and a call that is not refused
+module _ (s : List ℕ) where
+  pub passed-on : (answer : Reading) → told answer ≡ told (readSheet s) → (q r : Refusal) (rest : Told) → answer ≡ R.Refused q → Carries answer r
+      → refused r ≡ passOn (readSheet s) rest
+  passed-on answer e q r rest a b = ap refused (b q a) ∙ ap (λ x. passOn x rest) (sym a ∙ told-injective answer (readSheet s) e)
+
+  pub read-on : Accepted s → (rest : Told) → rest ≡ passOn (readSheet s) rest
+  read-on a rest = sym (ap (λ x. passOn x rest) (accepted-read s a))
+
+  pub not-passed-on : (rest : Told) → passOn (readSheet s) rest .number ≡ 0 → Accepted s × (rest .number ≡ 0)
+  not-passed-on rest z =
+      ⊎-elim
+      (λ a. (a .0, sym (ap (λ x. passOn x rest .number) (a .1)) ∙ z))
+      (λ a. never-zero (a .0) (sym (ap (λ x. passOn x rest .number) (a .1 .answer)) ∙ z))
+      (read-or-refused s)
 
 -- ---- what is left: the new where the call is done, the old where it is refused
 module _ {A : Type 0} (t : Told) (new old : A) where

@@ -21,7 +21,8 @@ use Rattle.answers.specs.Answers.{passOn, guard, Carries}
 use Rattle.layout.specs.Layout.{short}
 use Rattle.runner.specs.Steps.{adrift}
 use Rattle.runner.specs.declared.Runner.{Runner}
-use Rattle.runner.proofs.Entry.{Course, passed-on}
+use Rattle.answers.proofs.Guards.{passed-on}
+use Rattle.runner.proofs.Entry.{Course}
 use Rattle.place.specs.Asked.{Fitting}
 use Rattle.place.specs.declared.Placed.{Placed}
 use Rattle.place.proofs.Answer.{Answers, answers-with}

@@ -7,7 +7,8 @@ use Rattle.runner.specs.Ticks.{found, IsRead}
 use Rattle.runner.specs.Steps.{adrift}
 use Rattle.runner.specs.Backs.{backed}
 use Rattle.runner.specs.declared.Runner.{Runner}
-use Rattle.runner.proofs.Entry.{Course, course, passed-on}
+use Rattle.answers.proofs.Guards.{passed-on}
+use Rattle.runner.proofs.Entry.{Course, course}
 use borrow.Author.Needs.{needs}
 use Rattle.runner.proofs.backs.backed.Statement.{statement}
 use Rattle.runner.proofs.backs.backed.Tie as tie

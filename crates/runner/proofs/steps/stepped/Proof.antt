@@ -7,7 +7,8 @@ use native.Mathlib.Omega.{arith}
 use Rattle.runner.specs.Ticks.{found, IsRead}
 use Rattle.runner.specs.Steps.{adrift, stepped}
 use Rattle.runner.specs.declared.Runner.{Runner}
-use Rattle.runner.proofs.Entry.{Course, course, passed-on}
+use Rattle.answers.proofs.Guards.{passed-on}
+use Rattle.runner.proofs.Entry.{Course, course}
 use Rattle.runner.proofs.Standing.{standing, leg-below}
 use borrow.Author.Needs.{needs}
 use Rattle.runner.proofs.steps.stepped.Statement.{statement}
