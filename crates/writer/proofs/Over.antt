@@ -5,8 +5,8 @@ use Prim.Native.Nat.{ℕ, suc, _+_, _≤_}
 use native.Mathlib.Nat.{add-zero}
 use native.Mathlib.Numerals.{add-one}
 use native.Mathlib.Omega.{arith}
-use lib.ListN.{length, take, drop, set, length-append, take-append-drop}
-use lib.Seq.{sets-eq, take-at, drop-at, drop-drop, length-take-le}
+use lib.ListN.{length, take, drop, set, length-append, length-drop, take-append-drop, drop-of-length-le}
+use lib.Seq.{sets-eq, take-at, take-length, drop-at, drop-drop, length-take-le}
 use Rattle.writer.specs.Inside.{over}
 
 module _ (l : List ℕ) (at : ℕ) where
@@ -34,6 +34,27 @@ module _ (l : List ℕ) (at : ℕ) where
 pub over-next : (l : List ℕ) (at : ℕ) (x y : List ℕ) {m : List ℕ} {next : ℕ}
     → m ≡ over x at l → next ≡ at + length x → at + length x ≤ length l → over y next m ≡ over (x ++ y) at l
 over-next l at x y e q h = (λ i. over y (q i) (e i)) ∙ over-more l at x h y
+
+-- ---- k of the bytes of s from `from` on, copied into as many of l's from `at` on; i and j are k as the code has it
+module _ (s : List ℕ) (from : ℕ) (l : List ℕ) (at k : ℕ) {i j : ℕ} (is : i ≡ k) (js : j ≡ k) where
+  abbrev source : List ℕ
+  source = take i (drop from s)
+
+  abbrev target : List ℕ
+  target = take j (drop at l)
+
+  -- what a copy leaves in the target, put back
+  pub part-copied : from + k ≤ length s → at + k ≤ length l → {part : List ℕ} → part ≡ take (length source) source ++ drop (length source) target
+      → take at l ++ (part ++ drop j (drop at l)) ≡ over (take k (drop from s)) at l
+  unfolding over
+  part-copied h room e =
+      let long = length-take-le i (drop from s) (omega (arith, length-drop from s)) in
+      let wide = length-take-le j (drop at l) (omega (arith, length-drop at l)) in
+      let none = drop-of-length-le target {i = length source} (omega arith) in
+      let whole = e ∙ (λ z. take-length source z ++ none z) ∙ append-nil source ∙ ap (λ n. take n (drop from s)) is in
+      let end : at + j ≡ at + length (take k (drop from s)) = omega (arith, ap (λ n. length (take n (drop from s))) is) in
+      (λ z. take at l ++ (whole z ++ (drop-drop j at l ∙ ap (λ n. drop n l) end) z))
+      ∙ sym (append-assoc (take at l) (take k (drop from s)) (drop (at + length (take k (drop from s))) l))
 
 -- ---- stores
 pub two-stored : (a b : ℕ) (l : List ℕ) (at : ℕ) → at + 2 ≤ length l → set (set l at a) (at + 1) b ≡ over (a ∷ b ∷ []) at l

@@ -16,7 +16,7 @@ use Rattle.writer.proofs.Bytes.{signed-bits, bits-small, read-two, read
 use Rattle.writer.proofs.Over.{over-next}
 
 -- ---- one more element, at the end
-flat-append : {A : Type 0} (f : A → List ℕ) (k l : List A) → flatMap f (k ++ l) ≡ flatMap f k ++ flatMap f l
+pub flat-append : {A : Type 0} (f : A → List ℕ) (k l : List A) → flatMap f (k ++ l) ≡ flatMap f k ++ flatMap f l
 unfolding flatMap
 flat-append f [] l = refl
 flat-append f (x ∷ k) l = ap (λ r. f x ++ r) (flat-append f k l) ∙ sym (append-assoc (f x) (flatMap f k) (flatMap f l))

@@ -2,6 +2,8 @@
 mod put;
 
 use lists::Written;
+pub use put::copy_part;
+pub use put::put_head;
 ghost use mathlib.Core.Path.{_≡_};
 ghost use lib.ListN.{length};
 ghost use Rattle.lists.specs.Lists.{lists};

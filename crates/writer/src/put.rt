@@ -3,7 +3,7 @@ ghost use mathlib.Core.Path.{_≡_};
 ghost use mathlib.Core.List.{flatMap};
 ghost use Prim.Native.Nat.{ℕ, _+_, _*_, _≤_, _<_};
 ghost use lib.IntN.{pos, natAbs};
-ghost use lib.ListN.{length, getD};
+ghost use lib.ListN.{length, getD, take, drop};
 ghost use Rattle.lists.specs.Lists.{lists, sizeOf};
 ghost use Rattle.writer.specs.Sheets.{bytes16, bytes32, bits32, numberBytes, headBytes, writtenSheet};
 ghost use Rattle.lists.specs.Inside.{Writable};
@@ -64,13 +64,21 @@ fn put_numbers(out: &mut [u8], from: usize, numbers: &[i64])
 }
 
 // S2 to S5: the count of bytes, version 1, the kind, N.
-fn put_head(out: &mut [u8], size: u64, kind: u64, n: u64)
+pub fn put_head(out: &mut [u8], size: u64, kind: u64, n: u64)
     requires { ⌜ (8 ≤ length (now out)) × (kind ≤ 2) ⌝ }
     ensures { λ _. ⌜ now (out .exit) ≡ over (headBytes size kind n) 0 (now (out .entry)) ⌝ }
 {
     put32(out, 0, size);
     put16(out, 4, 256 + kind);
     put16(out, 6, n);
+}
+
+// The `count` bytes of `s` from `from` on, put into `out` from `at` on: a section of one sheet that stands in another as well.
+pub fn copy_part(s: &[u8], from: usize, count: usize, out: &mut [u8], at: usize)
+    requires { ⌜ (from + count ≤ length (now s)) × (at + count ≤ length (now out)) ⌝ }
+    ensures { λ _. ⌜ now (out .exit) ≡ over (take count (drop from (now (s .entry)))) at (now (out .entry)) ⌝ }
+{
+    bytes::copy(&s[from..from + count], &mut out[at..at + count]);
 }
 
 // G5: the whole sheet, of lists that nothing refuses.
