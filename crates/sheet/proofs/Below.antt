@@ -80,6 +80,18 @@ unfolding anyBelow
 any-three p e f g = (λ i. e i || f i || g i)
 
 -- ---- a sum
+-- of the same numbers
+pub sum-same : (f g : ℕ → ℕ) (n : ℕ) → ((i : ℕ) → i < n → f i ≡ g i) → sumBelow f n ≡ sumBelow g n
+unfolding sumBelow
+sum-same f g zero h = refl
+sum-same f g (suc n) h = (λ i. sum-same f g n (λ k l. h k (omega arith)) i + h n (omega arith) i)
+
+-- over i, and over the next m
+pub sum-append : (f : ℕ → ℕ) (i m : ℕ) → sumBelow f (i + m) ≡ sumBelow f i + sumBelow (λ k. f (i + k)) m
+unfolding sumBelow
+sum-append f i zero = ap (sumBelow f) (add-zero i) ∙ sym (add-zero (sumBelow f i))
+sum-append f i (suc m) = let next : i + suc m ≡ suc (i + m) = omega arith in ap (sumBelow f) next ∙ omega (arith, sum-append f i m)
+
 pub sum-monotone : (f : ℕ → ℕ) (m n : ℕ) → m ≤ n → sumBelow f m ≤ sumBelow f n
 unfolding sumBelow
 sum-monotone f m zero h = let e : m ≡ 0 = omega arith in rw e (omega arith)

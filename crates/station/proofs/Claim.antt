@@ -76,7 +76,7 @@ module _ (s : List ℕ) (accepted : Accepted s) where
       unfolding course
       ends = next-lt (course s 0) i starts
 
-      bends-inside : bendOutside s list i ≡ false
+      pub bends-inside : bendOutside s list i ≡ false
       unfolding bendOutside anyBelow
       bends-inside = rw (
         bend-small i starts 0 (omega arith),

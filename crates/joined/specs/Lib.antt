@@ -1,0 +1,3 @@
+-- What is proved of joined sheets.
+pub mod Theorems
+pub mod Worked
