@@ -18,6 +18,7 @@ ghost use Rattle.sheet.specs.Reading.{readSheet};
 ghost use Rattle.lists.specs.Lists.{lists};
 ghost use Rattle.lists.specs.Answer.{toldWritten, writeSheet};
 ghost use Rattle.writer.specs.Writing.{writtenInto};
+ghost use Rattle.join.specs.Joining.{joinSheets, joinedInto};
 ghost use Rattle.layout.specs.Layout.{layOut, laidOut};
 ghost use Rattle.runner.specs.Ticks.{runner, toldRunner, runnerAtTick};
 ghost use Rattle.runner.specs.Steps.{stepped};
@@ -246,4 +247,19 @@ pub extern "C" fn station_write(
     ensures out { λ r. ⌜ now (out .exit) ≡ writtenUnsigned (writeSheet (lists kind (now (legs .entry)) (now (waypoints .entry)) (now (slopes .entry))) (length (now (sheet .entry)))) (now (out .entry)) ⌝ }
 {
     tell_written(writer::write(kind, legs, waypoints, slopes, sheet), out)
+}
+
+// out = the length of the joined sheet, which stands at the front of `sheet`; it is written there whether or not `out` has room
+#[no_mangle]
+pub extern "C" fn station_join(
+    first: &[u8],
+    second: &[u8],
+    sheet: &mut [u8],
+    out: &mut [u64],
+) -> u64
+    ensures answer { λ r. ⌜ r ≡ joinSheets (now (first .entry)) (now (second .entry)) (length (now (sheet .entry))) .number ⌝ }
+    ensures sheet { λ r. ⌜ now (sheet .exit) ≡ joinedInto (now (first .entry)) (now (second .entry)) (now (sheet .entry)) ⌝ }
+    ensures out { λ r. ⌜ now (out .exit) ≡ writtenUnsigned (joinSheets (now (first .entry)) (now (second .entry)) (length (now (sheet .entry)))) (now (out .entry)) ⌝ }
+{
+    tell_written(join::join(first, second, sheet), out)
 }
