@@ -5,6 +5,11 @@ use Rattle.writer.proofs.Worked.{sheet-tried}
 use Rattle.written.proofs.Accepted.{written-accepted}
 use Rattle.written.proofs.Again.{written-again}
 use Rattle.written.proofs.Worked.{reach-tried}
+use Rattle.join.proofs.Worked.{joins-tried}
+use Rattle.joined.proofs.Answers.{joined-where-few, crowded-where-more}
+use Rattle.joined.proofs.Worked.{ticks-tried, most-tried}
+use Rattle.joined.proofs.Fields.{joined-accepted}
+use Rattle.joined.proofs.Flown.{joined-met, joined-near}
 use Rattle.systems.proofs.Size.{unique, solution-bounded}
 use Rattle.systems.proofs.Existence.{solvable}
 use Rattle.systems.proofs.Distance.{passes-near, forty-passes-near, passes-bounded}
@@ -50,7 +55,9 @@ claims = record {
     longest = longest;
     step-before = step-before;
     back-behind = back-behind;
+    crowded-where-more = crowded-where-more;
     tick-is-runner = tick-is-runner;
+    joined-where-few = joined-where-few;
     row-gap = row-gap;
     laid-out-near = laid-out-near;
     tick-stands = tick-stands;
@@ -68,6 +75,8 @@ claims = record {
     steps-after-backs = steps-after-backs;
     written-accepted = written-accepted;
     written-again = written-again;
+    joined-accepted = joined-accepted;
+    joined-met = joined-met;
     accepted-output = accepted-output;
     every-tick = every-tick;
     line-one = line-one;
@@ -81,10 +90,14 @@ claims = record {
     sheet-tried = sheet-tried;
     moves-tried = moves-tried;
     reach-tried = reach-tried;
+    joins-tried = joins-tried;
+    ticks-tried = ticks-tried;
+    most-tried = most-tried;
     chord-not-near = chord-not-near;
   };
   demand3 = claim;
   own-laid = own-laid;
+  joined-near = joined-near;
   theory = record {
     solvable = solvable;
     unique = unique;

@@ -5,6 +5,9 @@ use Rattle.lists.specs.Worked.{AnswersTried}
 use Rattle.writer.specs.Worked.{SheetTried}
 use Rattle.written.specs.Theorems.{WrittenAccepted, WrittenAgain}
 use Rattle.written.specs.Worked.{ReachTried}
+use Rattle.join.specs.Worked.{JoinsTried}
+use Rattle.joined.specs.Theorems.{JoinedWhereFew, CrowdedWhereMore, JoinedAccepted, JoinedMet, JoinedNear}
+use Rattle.joined.specs.Worked.{TicksTried, MostTried}
 use Rattle.systems.specs.Theorems.{Solvable, Unique, SolutionBounded, PassesNear, FortyPassesNear, PassesBounded, EarlyEnd}
 use Rattle.spline.specs.Theorems.{RowGap, RowsFollow, SplineExists, OneCurve, BendsNear, FreePairZeros, BendsBounded, PositionSharp, PositionNear}
 use Rattle.layout.specs.Theorems.{CourseInBounds, LaidOutNear}
@@ -43,8 +46,12 @@ pub record Demand2 : Type 0 where
   pub step-before : StepBefore
   -- N15: start is said at the first tick alone
   pub back-behind : BackBehind
+  -- N18: more than 513 waypoints of two sheets that meet are crowded
+  pub crowded-where-more : CrowdedWhereMore
   -- A4, A5: the place by tick is the place of the tick's runner
   pub tick-is-runner : TickIsRunner
+  -- A13: two sheets that meet, of no more than 513 waypoints, are joined where there is room
+  pub joined-where-few : JoinedWhereFew
   -- R6
   pub row-gap : RowGap
   -- L6
@@ -74,6 +81,10 @@ pub record Demand2 : Type 0 where
   pub written-accepted : WrittenAccepted
   -- G6
   pub written-again : WrittenAgain
+  -- J1 to J3
+  pub joined-accepted : JoinedAccepted
+  -- J4
+  pub joined-met : JoinedMet
   -- T2: the output of an accepted sheet, with a line for every tick
   pub accepted-output : AcceptedOutput
   pub every-tick : EveryTick
@@ -96,6 +107,10 @@ pub record Demand2 : Type 0 where
   pub moves-tried : MovesTried
   -- W14
   pub reach-tried : ReachTried
+  -- W15
+  pub joins-tried : JoinsTried
+  pub ticks-tried : TicksTried
+  pub most-tried : MostTried
   -- K4, K8: zeros in place of bend numbers fail on tenfold A
   pub chord-not-near : ChordNotNear
 
@@ -127,4 +142,6 @@ pub record Claims : Type 0 where
   pub demand3 : Claim
   -- C1: own bend numbers are there after a laying out
   pub own-laid : OwnLaid
+  -- J5: of joined sheets
+  pub joined-near : JoinedNear
   pub theory : Theory

@@ -5,12 +5,13 @@ use Prim.Native.Nat.{ℕ}
 use lib.IntN.{ℤ}
 use lib.ListN.{length}
 use Rattle.sheet.specs.Answers.{refused}
-use Rattle.sheet.specs.Reading.{readSheet}
+use Rattle.sheet.specs.Reading.{Accepted, readSheet}
 use Rattle.sheet.specs.declared.Reading.the-variants.{Refused}
 use Rattle.sheet.specs.declared.Refusal.{Refusal}
 use Rattle.lists.specs.Lists.{Lists}
 use Rattle.lists.specs.Answer.{writeSheet}
 use Rattle.writer.specs.Writing.{writtenInto}
+use Rattle.join.specs.Joining.{joinSheets, joinedInto}
 use Rattle.layout.specs.Layout.{layOut, laidOut}
 use Rattle.runner.specs.Ticks.{runnerAtTick}
 use Rattle.runner.specs.Steps.{stepped, onward}
@@ -26,6 +27,9 @@ pub record PassedOn (s : List ℕ) (q : Refusal) : Type 0 where
   pub from-tick : (t : ℕ) → runnerAtTick s t ≡ refused q
   pub step : (r : Runner) → stepped s r ≡ refused q
   pub back : (r : Runner) → backed s r ≡ refused q
+  -- as the first of two sheets to be joined, and as the second behind an accepted one
+  pub join-first : (t : List ℕ) (room : ℕ) → joinSheets s t room ≡ refused q
+  pub join-second : (t : List ℕ) (room : ℕ) → Accepted t → joinSheets t s room ≡ refused q
 
 abbrev pub RefusalPassedOn : Type 0
 RefusalPassedOn = (s : List ℕ) (q : Refusal) → readSheet s ≡ Refused q → PassedOn s q
@@ -38,6 +42,8 @@ RefusedKeepsList = (s : List ℕ) (list : List ℤ) → ¬ (layOut s (length lis
 abbrev pub RefusedKeepsRecord : Type 0
 RefusedKeepsRecord = (s : List ℕ) (r : Runner) → (¬ (stepped s r .number ≡ 0) → onward s r ≡ r) × (¬ (backed s r .number ≡ 0) → backward s r ≡ r)
 
--- .. and a refused writing the slice
+-- .. and a refused writing or joining the slice
 abbrev pub RefusedKeepsSlice : Type 0
-RefusedKeepsSlice = (c : Lists) (out : List ℕ) → ¬ (writeSheet c (length out) .number ≡ 0) → writtenInto c out ≡ out
+RefusedKeepsSlice =
+    ((c : Lists) (out : List ℕ) → ¬ (writeSheet c (length out) .number ≡ 0) → writtenInto c out ≡ out)
+    × ((s t out : List ℕ) → ¬ (joinSheets s t (length out) .number ≡ 0) → joinedInto s t out ≡ out)
