@@ -138,6 +138,7 @@ module _ (s t out : List ℕ) (done : joinSheets s t (length out) .number ≡ 0)
       second-waypoint = second-waypoint;
       all-ticks = all-ticks;
     };
+    whole = written .whole;
   }
 
 pub joined-accepted : JoinedAccepted

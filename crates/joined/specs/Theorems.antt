@@ -12,9 +12,10 @@ use Rattle.sheet.specs.Fields.{kind, points, legs, leg, ticks, waypoint}
 use Rattle.sheet.specs.Reading.{Accepted}
 use Rattle.sheet.specs.declared.Refusal.the-variants.{Page, Crowded}
 use Rattle.answers.specs.Answers.{guard}
+use Rattle.lists.specs.Lists.{listsOf}
 use Rattle.lists.specs.Answer.{toldWritten}
 use Rattle.lists.specs.declared.Written.the-variants.{Length}
-use Rattle.join.specs.Joining.{joinedSheet, joinSheets, joinedInto}
+use Rattle.join.specs.Joining.{joinedLists, joinedSheet, joinSheets, joinedInto}
 use Rattle.place.specs.Places.{placeAtTick}
 use Rattle.place.specs.Theorems.{met, tickOfWaypoint}
 use Rattle.station.specs.Claim.{Own, Demand3}
@@ -48,13 +49,14 @@ pub record InTurn (j s t : List ℕ) : Type 0 where
   pub all-ticks : ticks j ≡ ticks s + ticks t
 
 -- J1, J3: the answer is the joined sheet's length, the slice begins with that sheet and is behind it as it was, the sheet is accepted, and its fields are
--- those of both in turn
+-- those of both in turn, one by one and as a whole
 pub record WellJoined (s t out : List ℕ) : Type 0 where
   pub meeting : Meeting s t
   pub answered : joinSheets s t (length out) ≡ toldWritten (Length (length (joinedSheet s t)))
   pub slice : joinedInto s t out ≡ joinedSheet s t ++ drop (length (joinedSheet s t)) out
   pub accepted : Accepted (joinedSheet s t)
   pub fields : InTurn (joinedSheet s t) s t
+  pub whole : listsOf (joinedSheet s t) ≡ joinedLists s t
 
 -- so it is where joining is not refused
 abbrev pub JoinedAccepted : Type 0
