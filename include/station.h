@@ -1,17 +1,18 @@
 /* The route station's curve for C99 and later, and C++11 and later: the functions of the proved library libstation.a.
- * `tools/archive` makes the library, `tools/install PREFIX` installs both; examples/fly.c flies a course with them.
- * N6, A4 and the like are clauses of docs/REQUIREMENTS.md.
+ * `tools/archive` makes the library, `tools/install PREFIX` installs both; examples/fly.c flies a course with them,
+ * examples/join.c joins two. N6, A4 and the like are clauses of docs/REQUIREMENTS.md.
  *
  * Units: ten ticks are a second; north, east and up are millimetres seen from the home post, in whole numbers. N, L and P stand for the
  * counts of waypoints, of legs, and of ticks on all legs together.
  *
- * Answers (A1, A9): STATION_DONE, or the least number of the refusals that this call looks for and finds. A refused call leaves all that
- * it was lent as it was. There is no state behind the calls, no heap, no global variable and no errno; threads may call at the same time.
+ * Answers (A1, A9): STATION_DONE, or the least number of the refusals that this call looks for and finds; joining has an order of its own
+ * (A13). A refused call leaves all that it was lent as it was. There is no state behind the calls, no heap, no global variable and no
+ * errno; threads may call at the same time.
  *
  * A slice is a pointer, followed by how many elements there are. Any bytes and numbers may stand in it (D1). The caller owes that
  *   - its pointer is never null, even for no elements, is aligned as its type wants, and reaches over all the elements;
- *   - what a call writes (out; list when laying out; the runner of a step or a back; the sheet when writing) shares no memory with
- *     another slice of that call;
+ *   - what a call writes (out; list when laying out; the runner of a step or a back; the sheet when writing or joining) shares no memory
+ *     with another slice of that call (slices that it only reads may share theirs: a sheet can be joined with itself);
  *   - no other thread writes a slice during the call.
  * Results fill out from its start, and nothing after them is touched. An out that is too short stays as it was although the answer is the
  * same: the functions over structs, further down, cannot be called with a short out.
@@ -20,8 +21,8 @@
  * [measured]
  *   format:           elf64-x86-64, for Linux (System V calls)
  *   outside symbols:  memset
- *   code:             5279 bytes with constants, data 0, zeroed data 0
- *   deepest stack:    256 bytes (read 136, lay_out 256, place_at_tick 248, place_of_runner 248, runner_at_tick 152, step 152, back 152, write 56)
+ *   code:             6690 bytes with constants, data 0, zeroed data 0
+ *   deepest stack:    256 bytes (read 136, lay_out 256, place_at_tick 248, place_of_runner 248, runner_at_tick 152, step 152, back 152, write 56, join 216)
  * [/measured]
  */
 #ifndef STATION_H
@@ -33,9 +34,9 @@
 /* The version of this header and its library. MAJOR moves where a correct caller may have to change, MINOR where functions or numbers are
  * added. MINOR moves as well where a refusal gets another limit: a correct caller handles its number already. */
 #define STATION_VERSION_MAJOR 1
-#define STATION_VERSION_MINOR 3
+#define STATION_VERSION_MINOR 4
 #define STATION_VERSION_PATCH 0
-#define STATION_VERSION "1.3.0"
+#define STATION_VERSION "1.4.0"
 
 /* Asks gcc and clang to warn where an answer is dropped or a null pointer is handed over; nothing to other compilers. */
 #if defined(__GNUC__)
@@ -65,7 +66,10 @@ enum {
     STATION_BEND = 12,    /* N12: at an end of the leg, a bend number over 2^37 in size */
     STATION_LANDED = 13,  /* N13: the runner has come to the end of an open course */
     STATION_PAGE = 14,    /* N14: the slice is shorter than the sheet to be written into it */
-    STATION_START = 15    /* N15: the runner stands at the first tick of an open course */
+    STATION_START = 15,   /* N15: the runner stands at the first tick of an open course */
+    STATION_SHUT = 16,    /* N16: one of the two sheets to be joined is not free-ended */
+    STATION_APART = 17,   /* N17: the first sheet's last waypoint is not the second's first, on some axis */
+    STATION_CROWDED = 18  /* N18: the joined course would have over 512 waypoints */
 };
 
 /* The kinds of ends (S4). */
@@ -106,6 +110,15 @@ STATION_CHECKED uint64_t station_back(const uint8_t *sheet, size_t sheet_length,
 STATION_CHECKED uint64_t station_write(uint64_t kind, const uint64_t *legs, size_t legs_length, const int64_t *waypoints,
                                        size_t waypoints_length, const int64_t *slopes, size_t slopes_length, uint8_t *sheet,
                                        size_t sheet_length, uint64_t *out, size_t out_length);
+
+/* Joins two free-ended courses, the second of which starts at the waypoint where the first ends: at the front of the slice `sheet`, whose
+ * bytes behind it stay, the joined sheet (J1). It has the legs of both in turn and their waypoints likewise, the shared one once (J2). The
+ * waypoints of the first keep their ticks, those of the second come later by the first's P (J4); between waypoints the joined course has a
+ * spline of its own, which need follow neither of the two (J5). Tests 1-8 of the first sheet, 1-8 of the second, 16, 17, 18 and, last of
+ * all, 14, in this order (A13); which of the two sheets was refused is not told. Results: the joined sheet's length; where out has no place
+ * for it, the sheet is written all the same. */
+STATION_CHECKED uint64_t station_join(const uint8_t *first, size_t first_length, const uint8_t *second, size_t second_length,
+                                      uint8_t *sheet, size_t sheet_length, uint64_t *out, size_t out_length);
 
 /* The same calls with structs for what they answer, and for the lists of a sheet. */
 
@@ -231,6 +244,17 @@ STATION_CHECKED static inline uint64_t station_write_lists(const struct station_
     return answer;
 }
 
+/* station_join. The joined sheet's length goes into *length where it is not refused. */
+STATION_CHECKED static inline uint64_t station_join_into(const uint8_t *first, size_t first_length, const uint8_t *second,
+                                                         size_t second_length, uint8_t *sheet, size_t sheet_length, size_t *length)
+{
+    uint64_t out[1] = {0};
+    uint64_t answer = station_join(first, first_length, second, second_length, sheet, sheet_length, out, 1);
+    if (answer == STATION_DONE)
+        *length = (size_t)out[0];
+    return answer;
+}
+
 /* The word of an answer (group N), "done" for STATION_DONE, "unknown" for a number that this header does not name. */
 static inline const char *station_word(uint64_t answer)
 {
@@ -267,6 +291,12 @@ static inline const char *station_word(uint64_t answer)
         return "page";
     case STATION_START:
         return "start";
+    case STATION_SHUT:
+        return "shut";
+    case STATION_APART:
+        return "apart";
+    case STATION_CROWDED:
+        return "crowded";
     default:
         return "unknown";
     }

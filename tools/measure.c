@@ -10,11 +10,11 @@
 #include <string.h>
 #include <ucontext.h>
 
-enum { STACK = 1 << 18, CALLS = 8, ADDRESS = 8 };
+enum { STACK = 1 << 18, CALLS = 9, JOIN = 8, ADDRESS = 8 };
 
-/* What is lent to a call: a sheet, the lists it is made from, room for one more. */
-static uint8_t sheet[STATION_LONGEST_SHEET + 1];
-static size_t sheet_length;
+/* What is lent to a call: a sheet, the one that is joined to it, the lists it is made from, room for one more. */
+static uint8_t sheet[STATION_LONGEST_SHEET + 1], second[STATION_LONGEST_SHEET + 1];
+static size_t sheet_length, second_length;
 static uint64_t legs[512];
 static int64_t waypoints[3 * 512], slopes[6];
 static struct station_lists lists = {0, legs, 0, waypoints, 0, slopes, 0};
@@ -23,10 +23,11 @@ static int64_t list[STATION_LONGEST_LIST];
 static uint64_t tick, words[3];
 static int64_t place[3];
 
-static const char *const names[CALLS] = {"read", "lay_out", "place_at_tick", "place_of_runner", "runner_at_tick", "step", "back", "write"};
+static const char *const names[CALLS] = {"read", "lay_out", "place_at_tick", "place_of_runner", "runner_at_tick",
+                                         "step", "back",    "write",         "join"};
 static uint64_t deepest[CALLS];
 
-/* The eight calls, or functions of the same types that do nothing. */
+/* The nine calls, or functions of the same types that do nothing. */
 struct calls {
     uint64_t (*read)(const uint8_t *, size_t, uint64_t *, size_t);
     uint64_t (*lay_out)(const uint8_t *, size_t, int64_t *, size_t);
@@ -37,10 +38,11 @@ struct calls {
     uint64_t (*back)(const uint8_t *, size_t, uint64_t *, size_t);
     uint64_t (*write)(uint64_t, const uint64_t *, size_t, const int64_t *, size_t, const int64_t *, size_t, uint8_t *, size_t, uint64_t *,
                       size_t);
+    uint64_t (*join)(const uint8_t *, size_t, const uint8_t *, size_t, uint8_t *, size_t, uint64_t *, size_t);
 };
 
-static const struct calls library = {station_read,           station_lay_out, station_place_at_tick, station_place_of_runner,
-                                     station_runner_at_tick, station_step,    station_back,          station_write};
+static const struct calls library = {station_read, station_lay_out, station_place_at_tick, station_place_of_runner, station_runner_at_tick,
+                                     station_step, station_back,    station_write,         station_join};
 
 static uint64_t no_read(const uint8_t *s, size_t n, uint64_t *out, size_t m)
 {
@@ -73,8 +75,13 @@ static uint64_t no_write(uint64_t k, const uint64_t *l, size_t a, const int64_t 
     return (void)k, (void)l, (void)a, (void)w, (void)b, (void)s, (void)c, (void)p, (void)n, (void)out, (void)m, 0;
 }
 
-static const struct calls nothing = {no_read,           no_lay_out, no_place_at_tick, no_place_of_runner,
-                                     no_runner_at_tick, no_read,    no_read,          no_write};
+static uint64_t no_join(const uint8_t *s, size_t a, const uint8_t *t, size_t b, uint8_t *p, size_t n, uint64_t *out, size_t m)
+{
+    return (void)s, (void)a, (void)t, (void)b, (void)p, (void)n, (void)out, (void)m, 0;
+}
+
+static const struct calls nothing = {no_read, no_lay_out, no_place_at_tick, no_place_of_runner, no_runner_at_tick,
+                                     no_read, no_read,    no_write,         no_join};
 
 /* Which call is made, and its answer; volatile, so that the compiler keeps one call site for both sets. */
 static const struct calls *volatile chosen;
@@ -107,9 +114,12 @@ static void make_call(void)
     case 6:
         answer = c->back(sheet, sheet_length, words, 2);
         break;
-    default:
+    case 7:
         answer = c->write(lists.kind, lists.legs, lists.legs_length, lists.waypoints, lists.waypoints_length, lists.slopes,
                           lists.slopes_length, page, sizeof page, words, 1);
+        break;
+    default:
+        answer = c->join(sheet, sheet_length, second, second_length, page, sizeof page, words, 1);
     }
 }
 
@@ -133,27 +143,33 @@ static size_t untouched(const struct calls *which, uint8_t paint)
     return left;
 }
 
-/* Makes all eight calls on the sheet and lists that are in place, at a tick and of a runner, and keeps the deepest of each; the answers
- * have to be `wanted`. */
-static void measure(uint64_t at, uint64_t leg, uint64_t offset, uint64_t wanted)
+/* Makes one call on what is in place, at a tick and of a runner, and keeps its deepest; the answer has to be `wanted`. */
+static void measure_call(int i, uint64_t at, uint64_t leg, uint64_t offset, uint64_t wanted)
 {
     static const uint8_t paints[] = {0xa5, 0x5a};
-    for (int i = 0; i < CALLS; i++)
-        for (size_t p = 0; p < sizeof paints; p++) {
-            call = i;
-            tick = at;
-            words[0] = leg;
-            words[1] = offset;
-            size_t empty = untouched(&nothing, paints[p]);
-            size_t full = untouched(&library, paints[p]);
-            if (answer != wanted || full == 0 || full > empty) {
-                fprintf(stderr, "measure: station_%s answers %llu\n", names[i], (unsigned long long)answer);
-                exit(1);
-            }
-            uint64_t depth = empty - full + ADDRESS;
-            if (depth > deepest[i])
-                deepest[i] = depth;
+    for (size_t p = 0; p < sizeof paints; p++) {
+        call = i;
+        tick = at;
+        words[0] = leg;
+        words[1] = offset;
+        size_t empty = untouched(&nothing, paints[p]);
+        size_t full = untouched(&library, paints[p]);
+        if (answer != wanted || full == 0 || full > empty) {
+            fprintf(stderr, "measure: station_%s answers %llu, not %llu\n", names[i], (unsigned long long)answer,
+                    (unsigned long long)wanted);
+            exit(1);
         }
+        uint64_t depth = empty - full + ADDRESS;
+        if (depth > deepest[i])
+            deepest[i] = depth;
+    }
+}
+
+/* All calls but the joining, which have one answer on the sheet and lists that are in place. */
+static void measure(uint64_t at, uint64_t leg, uint64_t offset, uint64_t wanted)
+{
+    for (int i = 0; i < JOIN; i++)
+        measure_call(i, at, leg, offset, wanted);
 }
 
 /* Makes the lists of a course whose waypoints swing between each axis' own limits; answers P. */
@@ -198,6 +214,18 @@ static void make_sheet(void)
         put((uint64_t)slopes[i], 4);
 }
 
+/* Joins a sheet with n waypoints and free ends to one with m and that kind of ends. The second starts where the first ends if n is odd. */
+static void measure_join(size_t n, uint64_t kind, size_t m, uint64_t wanted)
+{
+    make_lists(kind, m);
+    make_sheet();
+    memcpy(second, sheet, sheet_length);
+    second_length = sheet_length;
+    make_lists(STATION_FREE, n);
+    make_sheet();
+    measure_call(JOIN, 0, 0, 0, wanted);
+}
+
 int main(void)
 {
     for (uint64_t kind = STATION_FREE; kind <= STATION_CLOSED; kind++) {
@@ -216,6 +244,12 @@ int main(void)
         make_sheet();
         measure(1, 0, 1, STATION_LEG);
     }
+    measure_join(257, STATION_FREE, 256, STATION_DONE);
+    measure_join(3, STATION_FREE, 2, STATION_DONE);
+    measure_join(3, STATION_HELD, 512, STATION_SHUT);
+    measure_join(3, STATION_CLOSED, 512, STATION_SHUT);
+    measure_join(512, STATION_FREE, 512, STATION_APART);
+    measure_join(511, STATION_FREE, 512, STATION_CROWDED);
     for (int i = 0; i < CALLS; i++)
         printf("%s %llu\n", names[i], (unsigned long long)deepest[i]);
     return 0;

@@ -3,7 +3,7 @@
 //!
 //! A *sheet* is a course as bytes. [`read`] tells what it holds, [`lay_out`] makes the bend numbers that the places need, and then
 //! [`place_at_tick`] tells where the course is at each tick. A [`Runner`] does the same for a drone that moves on, or back, tick by tick.
-//! [`write()`] makes a sheet from lists of numbers. Ten ticks are a second, and lengths are whole millimetres.
+//! [`write()`] makes a sheet from lists of numbers, [`join`] one of two. Ten ticks are a second, and lengths are whole millimetres.
 //!
 //! Every function takes any bytes, lists and numbers (D1). What does not fit is answered with a [`Refusal`], and then nothing that was
 //! lent has changed (A9).
@@ -25,7 +25,7 @@
 //!
 //! `build.rs` links `libstation.a` from the folder that the variable `STATION_LIBRARY_DIR` names, or from `target/staticlib` of the
 //! repository that this crate is part of, where `tools/archive` makes it. The archive is for x86-64. Without the default feature `link`
-//! nothing is linked: the program then brings the eight functions of [`raw`] itself.
+//! nothing is linked: the program then brings the nine functions of [`raw`] itself.
 
 #![no_std]
 #![deny(missing_docs)]
@@ -284,6 +284,39 @@ pub fn back(sheet: &[u8], runner: &mut Runner) -> Result<(), Refusal> {
 pub fn write(kind: EndKind, legs: &[u64], waypoints: &[i64], slopes: &[i64], sheet: &mut [u8]) -> Result<usize, Refusal> {
     let mut out = [0];
     done(raw::write(kind as u64, legs, waypoints, slopes, sheet, &mut out))?;
+    Ok(out[0] as usize)
+}
+
+/// Joins two free-ended courses, the second of which starts at the waypoint where the first ends: at the front of the slice `sheet`, whose
+/// bytes behind it stay, the joined sheet (J1). It has the legs of both in turn and their waypoints likewise, the shared one once (J2).
+/// Answers the joined sheet's length. The waypoints of the first keep their ticks, those of the second come later by the first's P (J4);
+/// between waypoints the joined course has a spline of its own, which need follow neither of the two (J5). Tests 1-8 of the first sheet,
+/// 1-8 of the second, 16, 17, 18 and, last of all, 14, in this order (A13); which of the two sheets was refused is not told.
+///
+/// ```
+/// use station::{COURSE_A, EndKind, Refusal};
+///
+/// // on from course A's last waypoint, and the whole course
+/// let (mut onward, mut whole) = ([0; 34], [0; 62]);
+/// station::write(EndKind::Free, &[3], &[0, 10, 24, 9, 10, 24], &[], &mut onward)?;
+/// station::write(EndKind::Free, &[2, 2, 3], &[0, 10, 20, 8, 10, 22, 0, 10, 24, 9, 10, 24], &[], &mut whole)?;
+///
+/// // two bytes more than it needs
+/// let mut sheet = [7; 64];
+/// let length = station::join(&COURSE_A, &onward, &mut sheet)?;
+/// assert_eq!(sheet[..length], whole);
+/// assert_eq!(sheet[length..], [7, 7]);
+///
+/// let mut short = [7; 61];
+/// assert_eq!(station::join(&COURSE_A, &onward, &mut short), Err(Refusal::Page));
+/// assert_eq!(station::join(&onward, &COURSE_A, &mut short), Err(Refusal::Apart));
+/// assert_eq!(short, [7; 61]);
+/// # Ok::<(), station::Refusal>(())
+/// ```
+#[inline]
+pub fn join(first: &[u8], second: &[u8], sheet: &mut [u8]) -> Result<usize, Refusal> {
+    let mut out = [0];
+    done(raw::join(first, second, sheet, &mut out))?;
     Ok(out[0] as usize)
 }
 

@@ -1,4 +1,4 @@
-//! The C boundary (`include/station.h`): the eight functions as the archive has them, and the same over slices, for the rest of the crate.
+//! The C boundary (`include/station.h`): the nine functions as the archive has them, and the same over slices, for the rest of the crate.
 //! All `unsafe` code of the crate is here.
 
 // SAFETY: names and types are those of include/station.h.
@@ -43,6 +43,17 @@ unsafe extern "C" {
         waypoints_length: usize,
         slopes: *const i64,
         slopes_length: usize,
+        sheet: *mut u8,
+        sheet_length: usize,
+        out: *mut u64,
+        out_length: usize,
+    ) -> u64;
+    /// Two sheets joined into `sheet`, its length into `out`.
+    pub fn station_join(
+        first: *const u8,
+        first_length: usize,
+        second: *const u8,
+        second_length: usize,
         sheet: *mut u8,
         sheet_length: usize,
         out: *mut u64,
@@ -101,4 +112,11 @@ pub(crate) fn write(kind: u64, legs: &[u64], waypoints: &[i64], slopes: &[i64], 
     let (page, length) = (sheet.as_mut_ptr(), sheet.len());
     // SAFETY: pointers and lengths of five borrowed slices, `sheet` and `out` borrowed mutably.
     unsafe { station_write(kind, l, legs.len(), w, waypoints.len(), s, slopes.len(), page, length, out.as_mut_ptr(), out.len()) }
+}
+
+#[inline]
+pub(crate) fn join(first: &[u8], second: &[u8], sheet: &mut [u8], out: &mut [u64; 1]) -> u64 {
+    let (a, b, page, length) = (first.as_ptr(), second.as_ptr(), sheet.as_mut_ptr(), sheet.len());
+    // SAFETY: pointers and lengths of four borrowed slices, `sheet` and `out` borrowed mutably; the two that are read may be one.
+    unsafe { station_join(a, first.len(), b, second.len(), page, length, out.as_mut_ptr(), out.len()) }
 }

@@ -2,7 +2,8 @@
 
 use core::fmt;
 
-/// Why a call was refused. Of the refusals that a call looks for, the one with the least number is answered (A1).
+/// Why a call was refused. Of the refusals that a call looks for, the one with the least number is answered (A1); joining has an order of
+/// its own (A13).
 ///
 /// ```
 /// use station::Refusal;
@@ -45,6 +46,12 @@ pub enum Refusal {
     Page,
     /// N15: the runner stands at the first tick of an open course.
     Start,
+    /// N16: one of the two sheets to be joined is not free-ended.
+    Shut,
+    /// N17: the first sheet's last waypoint is not the second's first, on some axis.
+    Apart,
+    /// N18: the joined course would have over 512 waypoints.
+    Crowded,
     /// A number that this crate does not know, from a library newer than it. The library of this version has no such answer.
     Unknown(u64),
 }
@@ -78,6 +85,9 @@ impl Refusal {
             13 => Refusal::Landed,
             14 => Refusal::Page,
             15 => Refusal::Start,
+            16 => Refusal::Shut,
+            17 => Refusal::Apart,
+            18 => Refusal::Crowded,
             _ => Refusal::Unknown(number),
         })
     }
@@ -110,6 +120,9 @@ impl Refusal {
             Refusal::Landed => (13, "landed"),
             Refusal::Page => (14, "page"),
             Refusal::Start => (15, "start"),
+            Refusal::Shut => (16, "shut"),
+            Refusal::Apart => (17, "apart"),
+            Refusal::Crowded => (18, "crowded"),
             Refusal::Unknown(number) => (number, "unknown"),
         }
     }
