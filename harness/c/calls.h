@@ -1,7 +1,9 @@
-/* The eight calls of include/station.h over ten parts, which base.c and careful.c write each in its own way. The file that includes this
+/* The nine calls of include/station.h over ten parts, which base.c and careful.c write each in its own way. The file that includes this
  * one says by NAME what its calls are called. ROOM and NO_RUNNER are the answers where a lent slice is too short, from src/room.rs;
  * nothing is written into it then. */
 #include "station.h"
+
+#include <string.h>
 
 struct course {
     uint64_t kind, n, leg_count, ticks;
@@ -195,6 +197,45 @@ uint64_t NAME(write)(uint64_t kind, const uint64_t *legs, size_t legs_length, co
     p = put_legs(p, legs, legs_length);
     p = put_numbers(p, waypoints, waypoints_length);
     put_numbers(p, slopes, slopes_length);
+    if (out_length < 1)
+        return ROOM;
+    out[0] = length;
+    return STATION_DONE;
+}
+
+/* A copied section of a sheet; then where it ends. */
+static uint8_t *put_section(uint8_t *p, const uint8_t *section, size_t bytes)
+{
+    memcpy(p, section, bytes);
+    return p + bytes;
+}
+
+/* Sections are copied as they stand: two sheets' numbers have the same bytes where they are the same. */
+uint64_t NAME(join)(const uint8_t *first, size_t first_length, const uint8_t *second, size_t second_length, uint8_t *sheet,
+                    size_t sheet_length, uint64_t *out, size_t out_length)
+{
+    struct course a, b;
+    uint64_t answer = read_course(first, first_length, &a);
+    if (answer)
+        return answer;
+    answer = read_course(second, second_length, &b);
+    if (answer)
+        return answer;
+    if (a.kind != STATION_FREE || b.kind != STATION_FREE)
+        return STATION_SHUT;
+    if (memcmp(a.points + 12 * (a.n - 1), b.points, 12) != 0)
+        return STATION_APART;
+    size_t n = a.n + b.n - 1;
+    if (n > 512)
+        return STATION_CROWDED;
+    size_t length = 8 + 2 * (n - 1) + 12 * n;
+    if (sheet_length < length)
+        return STATION_PAGE;
+    uint8_t *p = put_head(sheet, length, STATION_FREE, n);
+    p = put_section(p, a.legs, 2 * a.leg_count);
+    p = put_section(p, b.legs, 2 * b.leg_count);
+    p = put_section(p, a.points, 12 * a.n);
+    put_section(p, b.points + 12, 12 * (b.n - 1));
     if (out_length < 1)
         return ROOM;
     out[0] = length;

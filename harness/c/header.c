@@ -12,7 +12,8 @@ struct entry {
 static const struct entry entries[] = {
     ENTRY(DONE), ENTRY(TORN), ENTRY(EDITION), ENTRY(ENDS), ENTRY(POINTS), ENTRY(SIZE), ENTRY(LEG),
     ENTRY(REACH), ENTRY(SLOPE), ENTRY(SHELF), ENTRY(PAST), ENTRY(ADRIFT), ENTRY(BEND), ENTRY(LANDED),
-    ENTRY(PAGE), ENTRY(START), ENTRY(FREE), ENTRY(HELD), ENTRY(CLOSED), ENTRY(LONGEST_SHEET), ENTRY(LONGEST_LIST),
+    ENTRY(PAGE), ENTRY(START), ENTRY(SHUT), ENTRY(APART), ENTRY(CROWDED), ENTRY(FREE), ENTRY(HELD), ENTRY(CLOSED),
+    ENTRY(LONGEST_SHEET), ENTRY(LONGEST_LIST),
 };
 
 /* The i-th enumerator, or 0 past the last. */
@@ -27,7 +28,7 @@ const char *header_word(uint64_t number)
     return station_word(number);
 }
 
-/* The eight calls by the header's functions over structs, in the form of the calls themselves, so that evidence can compare them alike. The
+/* The nine calls by the header's functions over structs, in the form of the calls themselves, so that evidence can compare them alike. The
  * structs hold before a call what out holds. Where out is too short for a struct, and for laying out, there is only the call itself. */
 
 uint64_t structs_read(const uint8_t *sheet, size_t n, uint64_t *out, size_t m)
@@ -118,6 +119,16 @@ uint64_t structs_write(uint64_t kind, const uint64_t *legs, size_t l, const int6
     struct station_lists lists = {kind, l ? legs : 0, l, w ? waypoints : 0, w, s ? slopes : 0, s};
     size_t length = out[0];
     uint64_t answer = station_write_lists(&lists, sheet, n, &length);
+    out[0] = length;
+    return answer;
+}
+
+uint64_t structs_join(const uint8_t *first, size_t a, const uint8_t *second, size_t b, uint8_t *sheet, size_t n, uint64_t *out, size_t m)
+{
+    if (m < 1)
+        return station_join(first, a, second, b, sheet, n, out, m);
+    size_t length = out[0];
+    uint64_t answer = station_join_into(first, a, second, b, sheet, n, &length);
     out[0] = length;
     return answer;
 }

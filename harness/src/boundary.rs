@@ -6,7 +6,7 @@ use crate::room::{NO_RUNNER, ROOM};
 /// `station_write`: the kind, three lists, the page, the out.
 type Write = unsafe extern "C" fn(u64, *const u64, usize, *const i64, usize, *const i64, usize, *mut u8, usize, *mut u64, usize) -> u64;
 
-/// One implementation of the eight calls.
+/// One implementation of the nine calls.
 pub struct Calls {
     pub name: &'static str,
     pub read: unsafe extern "C" fn(*const u8, usize, *mut u64, usize) -> u64,
@@ -17,6 +17,7 @@ pub struct Calls {
     pub step: unsafe extern "C" fn(*const u8, usize, *mut u64, usize) -> u64,
     pub back: unsafe extern "C" fn(*const u8, usize, *mut u64, usize) -> u64,
     pub write: Write,
+    pub join: unsafe extern "C" fn(*const u8, usize, *const u8, usize, *mut u8, usize, *mut u64, usize) -> u64,
 }
 
 impl Calls {
@@ -27,6 +28,14 @@ impl Calls {
         // SAFETY: pointers and lengths of live slices that do not overlap.
         unsafe { (self.write)(kind, legs, l, waypoints, w, slopes, s, page, n, out, m) }
     }
+
+    /// The call `join` over slices.
+    pub fn join_slices(&self, first: &[u8], second: &[u8], page: &mut [u8], out: &mut [u64]) -> u64 {
+        let ((first, a), (second, b)) = (parts(first), parts(second));
+        let ((page, n), (out, m)) = ((page.as_mut_ptr(), page.len()), (out.as_mut_ptr(), out.len()));
+        // SAFETY: pointers and lengths of live slices; those that are written overlap no other.
+        unsafe { (self.join)(first, a, second, b, page, n, out, m) }
+    }
 }
 
 /// A slice as C takes it.
@@ -36,7 +45,7 @@ fn parts<T>(slice: &[T]) -> (*const T, usize) {
 
 macro_rules! c_calls {
     ($($read:ident $lay_out:ident $place_at_tick:ident $place_of_runner:ident
-       $runner_at_tick:ident $step:ident $back:ident $write:ident;)*) => {
+       $runner_at_tick:ident $step:ident $back:ident $write:ident $join:ident;)*) => {
         extern "C" { $(
             fn $read(sheet: *const u8, n: usize, out: *mut u64, m: usize) -> u64;
             fn $lay_out(sheet: *const u8, n: usize, list: *mut i64, m: usize) -> u64;
@@ -51,19 +60,22 @@ macro_rules! c_calls {
                 kind: u64, legs: *const u64, l: usize, waypoints: *const i64, w: usize, slopes: *const i64, s: usize,
                 sheet: *mut u8, n: usize, out: *mut u64, m: usize,
             ) -> u64;
+            fn $join(
+                first: *const u8, a: usize, second: *const u8, b: usize, sheet: *mut u8, n: usize, out: *mut u64, m: usize,
+            ) -> u64;
         )* }
     };
 }
 
 c_calls! {
     station_read station_lay_out station_place_at_tick station_place_of_runner
-        station_runner_at_tick station_step station_back station_write;
+        station_runner_at_tick station_step station_back station_write station_join;
     base_read base_lay_out base_place_at_tick base_place_of_runner
-        base_runner_at_tick base_step base_back base_write;
+        base_runner_at_tick base_step base_back base_write base_join;
     careful_read careful_lay_out careful_place_at_tick careful_place_of_runner
-        careful_runner_at_tick careful_step careful_back careful_write;
+        careful_runner_at_tick careful_step careful_back careful_write careful_join;
     structs_read structs_lay_out structs_place_at_tick structs_place_of_runner
-        structs_runner_at_tick structs_step structs_back structs_write;
+        structs_runner_at_tick structs_step structs_back structs_write structs_join;
 }
 
 /// The station's library.
@@ -77,6 +89,7 @@ pub const LIBRARY: Calls = Calls {
     step: station_step,
     back: station_back,
     write: station_write,
+    join: station_join,
 };
 
 /// c/base.c.
@@ -90,6 +103,7 @@ pub const BASE: Calls = Calls {
     step: base_step,
     back: base_back,
     write: base_write,
+    join: base_join,
 };
 
 /// c/careful.c.
@@ -103,6 +117,7 @@ pub const CAREFUL: Calls = Calls {
     step: careful_step,
     back: careful_back,
     write: careful_write,
+    join: careful_join,
 };
 
 /// The library by the header's functions over structs (c/header.c).
@@ -116,9 +131,10 @@ pub const STRUCTS: Calls = Calls {
     step: structs_step,
     back: structs_back,
     write: structs_write,
+    join: structs_join,
 };
 
-/// Any of the eight calls with its numbers, and a writing's lists.
+/// Any of the nine calls with its numbers, a writing's lists, a joining's second sheet.
 #[derive(Clone, Debug)]
 pub enum Call {
     Read,
@@ -129,6 +145,7 @@ pub enum Call {
     Step,
     Back,
     Write(Lists),
+    Join(Vec<u8>),
 }
 
 /// What else is lent to a call, as it was before it or as it is after it.
@@ -142,10 +159,11 @@ pub struct Lent {
     pub page: Vec<u8>,
 }
 
-/// The memory that a call is made on: the sheet, a writing's lists, and what is lent.
+/// The memory that a call is made on: the sheet, a joining's second one, a writing's lists, and what is lent.
 #[derive(Default)]
 pub struct Memory<'a> {
     pub sheet: &'a [u8],
+    pub second: &'a [u8],
     pub legs: &'a [u64],
     pub waypoints: &'a [i64],
     pub slopes: &'a [i64],
@@ -156,10 +174,10 @@ pub struct Memory<'a> {
 }
 
 /// The names of the calls, by [`Call::index`].
-pub const NAMES: [&str; 8] = ["read", "lay_out", "place_at_tick", "place_of_runner", "runner_at_tick", "step", "back", "write"];
+pub const NAMES: [&str; 9] = ["read", "lay_out", "place_at_tick", "place_of_runner", "runner_at_tick", "step", "back", "write", "join"];
 
-/// A2 to A7, A12, A11: the numbers that each call tests, by [`Call::index`]; and the answers where what is lent is too short.
-pub const TESTS: [&[u64]; 8] = [
+/// A2 to A7, A12, A11, A13: the numbers that each call tests, by [`Call::index`]; and the answers where what is lent is too short.
+pub const TESTS: [&[u64]; 9] = [
     &[1, 2, 3, 4, 5, 6, 7, 8, ROOM],
     &[1, 2, 3, 4, 5, 6, 7, 8, 9],
     &[1, 2, 3, 4, 5, 6, 7, 8, 9, 10, 12, ROOM],
@@ -168,6 +186,7 @@ pub const TESTS: [&[u64]; 8] = [
     &[1, 2, 3, 4, 5, 6, 7, 8, 11, 13, NO_RUNNER],
     &[1, 2, 3, 4, 5, 6, 7, 8, 11, 15, NO_RUNNER],
     &[3, 4, 5, 6, 7, 8, 14, ROOM],
+    &[1, 2, 3, 4, 5, 6, 7, 8, 14, 16, 17, 18, ROOM],
 ];
 
 impl Call {
@@ -181,6 +200,7 @@ impl Call {
             Call::Step => 5,
             Call::Back => 6,
             Call::Write(_) => 7,
+            Call::Join(_) => 8,
         }
     }
 
@@ -191,7 +211,7 @@ impl Call {
             Call::LayOut => false,
             Call::PlaceAtTick { .. } | Call::PlaceOfRunner { .. } => lent.place.len() < 3,
             Call::RunnerAtTick { .. } | Call::Step | Call::Back => lent.words.len() < 2,
-            Call::Write(_) => lent.words.is_empty(),
+            Call::Write(_) | Call::Join(_) => lent.words.is_empty(),
         }
     }
 
@@ -207,15 +227,16 @@ impl Call {
             Call::Step => moved(sheet, words, model::stepped),
             Call::Back => moved(sheet, words, model::backed),
             Call::Write(ref lists) => model::write(lists, page).and_then(|length| put(words, &[length as u64])),
+            Call::Join(ref second) => model::join(sheet, second, page).and_then(|length| put(words, &[length as u64])),
         };
         answer.err().unwrap_or(0)
     }
 
     /// The same by one of the implementations.
     pub fn by(&self, calls: &Calls, memory: Memory) -> u64 {
-        let Memory { sheet, legs, waypoints, slopes, list, words, place, page } = memory;
+        let Memory { sheet, second, legs, waypoints, slopes, list, words, place, page } = memory;
         let ((s, n), (out, m)) = (parts(sheet), (words.as_mut_ptr(), words.len()));
-        // SAFETY: pointers and lengths of live slices that do not overlap.
+        // SAFETY: pointers and lengths of live slices; those that are written overlap no other.
         unsafe {
             match *self {
                 Call::Read => (calls.read)(s, n, out, m),
@@ -228,6 +249,7 @@ impl Call {
                 Call::Step => (calls.step)(s, n, out, m),
                 Call::Back => (calls.back)(s, n, out, m),
                 Call::Write(Lists { kind, .. }) => calls.write_slices(kind, legs, waypoints, slopes, page, words),
+                Call::Join(_) => calls.join_slices(sheet, second, page, words),
             }
         }
     }

@@ -9,6 +9,7 @@ pub mod header;
 pub mod lists;
 pub mod model;
 pub mod options;
+pub mod pairs;
 pub mod pcuspl;
 pub mod random;
 pub mod room;

@@ -3,8 +3,10 @@
 //! Written from the clauses alone, to be right and not to be fast: `i128` everywhere, the sheet decoded into lists, every pass made. It
 //! shares nothing with the Rattle code or with the C files here. A refusal is `Err` with its number of group N.
 
+mod joining;
 mod writing;
 
+pub use joining::join;
 pub use writing::{write, Lists};
 
 pub const TORN: u64 = 1;
@@ -22,10 +24,14 @@ pub const BEND: u64 = 12;
 pub const LANDED: u64 = 13;
 pub const PAGE: u64 = 14;
 pub const START: u64 = 15;
+pub const SHUT: u64 = 16;
+pub const APART: u64 = 17;
+pub const CROWDED: u64 = 18;
 
-/// The words of N1 to N15, by number; 0 has none.
-pub const WORDS: [&str; 16] = [
+/// The words of N1 to N18, by number; 0 has none.
+pub const WORDS: [&str; 19] = [
     "", "torn", "edition", "ends", "points", "size", "leg", "reach", "slope", "shelf", "past", "adrift", "bend", "landed", "page", "start",
+    "shut", "apart", "crowded",
 ];
 
 /// S4.

@@ -42,7 +42,7 @@ impl Draft {
     }
 
     /// Fits the lists to N and the kind, so that the length is that of the formula (for a kind above 2, that of a free course).
-    fn fit(&mut self, random: &mut Random) {
+    pub fn fit(&mut self, random: &mut Random) {
         let n = usize::from(self.n);
         let l = if self.kind == CLOSED { n } else { n.saturating_sub(1) };
         self.legs.resize_with(l, || random.between(1, 256) as u16);
@@ -60,7 +60,7 @@ fn mend(bytes: &mut [u8]) {
 }
 
 /// 2 (closed: 3) to 512 waypoints, small numbers more often, the largest ones now and then.
-fn waypoints(random: &mut Random, kind: u8) -> usize {
+pub fn waypoints(random: &mut Random, kind: u8) -> usize {
     let least = if kind == CLOSED { 3 } else { 2 };
     let most = match random.below(200) {
         0..=119 => 7,

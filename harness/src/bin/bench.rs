@@ -9,6 +9,7 @@
 use harness::boundary::{Calls, BASE, CAREFUL, LIBRARY};
 use harness::model::{self, Kind, Lists};
 use harness::options::Given;
+use harness::pairs;
 use harness::pcuspl::Pcuspl;
 use harness::random::Random;
 use harness::sheets::{self, Draft, CLOSED, FREE};
@@ -115,6 +116,8 @@ struct Form {
     sheets: Vec<Vec<u8>>,
     /// What the sheets are written from.
     sources: Vec<Lists>,
+    /// What, joined, has the waypoints of each sheet: two free courses, cut at its middle waypoint.
+    halves: Vec<[Vec<u8>; 2]>,
     lists: Vec<Vec<i64>>,
     /// The last tick: P on an open course, P - 1 on a closed one.
     ticks: Vec<u64>,
@@ -126,13 +129,13 @@ struct Form {
 
 impl Form {
     fn new(name: &str, n: usize, make: impl FnMut() -> Draft) -> Form {
-        let mut make = make;
-        let sheets: Vec<Vec<u8>> = (0..8).map(|_| make().bytes()).collect();
+        let drafts: Vec<Draft> = std::iter::repeat_with(make).take(8).collect();
         let mut form = Form {
             name: format!("N = {n}, {name}"),
             n,
-            sheets,
+            sheets: drafts.iter().map(Draft::bytes).collect(),
             sources: vec![],
+            halves: drafts.iter().map(|draft| pairs::cut(draft, n / 2).map(|half| half.bytes())).collect(),
             lists: vec![],
             ticks: vec![],
             runners: vec![],
@@ -154,6 +157,9 @@ impl Form {
                 form.passes += f64::from(unchanged.unwrap_or(40)) / 8.0;
             }
         }
+        for [first, second] in &form.halves {
+            model::join(first, second, &mut vec![0; form.sheets[0].len()]).expect("two that can be joined");
+        }
         form
     }
 }
@@ -168,6 +174,7 @@ enum Call {
     Step,
     Back,
     Write,
+    Join,
 }
 
 impl Call {
@@ -175,7 +182,6 @@ impl Call {
         let sheet = |k: usize| (form.sheets[k].as_ptr(), form.sheets[k].len());
         let list = |k: usize| (form.lists[k].as_ptr(), form.lists[k].len());
         let (mut numbers, mut place, mut room) = ([0_u64; 3], [0_i64; 3], vec![0_i64; 3 * form.n]);
-        let mut page = vec![0_u8; form.sheets[0].len()];
         // SAFETY (all calls): pointers and lengths of live slices that do not overlap.
         match self {
             Call::Read => Box::new(move |k| {
@@ -207,11 +213,23 @@ impl Call {
                     black_box(unsafe { call(s, n, runner.as_mut_ptr(), 2) });
                 })
             }
-            Call::Write => Box::new(move |k| {
-                let Lists { kind, legs, waypoints, slopes } = &form.sources[k];
-                black_box(calls.write_slices(*kind, legs, waypoints, slopes, &mut page, &mut numbers[..1]));
-            }),
+            Call::Write | Call::Join => self.making(calls, form),
         }
+    }
+
+    /// The calls that make a sheet.
+    fn making<'a>(self, calls: &'a Calls, form: &'a Form) -> Work<'a> {
+        let (mut page, mut length) = (vec![0_u8; form.sheets[0].len()], [0]);
+        if let Call::Join = self {
+            return Box::new(move |k| {
+                let [first, second] = &form.halves[k];
+                black_box(calls.join_slices(first, second, &mut page, &mut length));
+            });
+        }
+        Box::new(move |k| {
+            let Lists { kind, legs, waypoints, slopes } = &form.sources[k];
+            black_box(calls.write_slices(*kind, legs, waypoints, slopes, &mut page, &mut length));
+        })
     }
 }
 
@@ -262,9 +280,9 @@ fn forms(seed: u64) -> ([Form; 2], Form, Vec<[Form; 2]>) {
     (open, three, laid)
 }
 
-/// The eight calls on all forms, and how they grow.
+/// The nine calls on all forms, and how they grow.
 fn time_calls(bench: &mut Bench, [small, large]: &[Form; 2], three: &Form, laid: &[[Form; 2]]) {
-    let (mut places, mut writes) = (vec![], vec![]);
+    let (mut places, mut writes, mut joins) = (vec![], vec![], vec![]);
     for form in [large, small, three] {
         bench.call("read", form, Call::Read);
         places.push(bench.call("place at the last tick", form, Call::PlaceAtLastTick));
@@ -273,6 +291,7 @@ fn time_calls(bench: &mut Bench, [small, large]: &[Form; 2], three: &Form, laid:
         bench.call("step", form, Call::Step);
         bench.call("back", form, Call::Back);
         writes.push(bench.call("write", form, Call::Write));
+        joins.push(bench.call("join", form, Call::Join));
     }
     let mut per_pass = vec![];
     for [small, large] in laid {
@@ -285,6 +304,7 @@ fn time_calls(bench: &mut Bench, [small, large]: &[Form; 2], three: &Form, laid:
 
     bench.growth("place at the last tick", places[0], places[1]);
     bench.growth("write", writes[0], writes[1]);
+    bench.growth("join", joins[0], joins[1]);
     // (not on the worst sheets: of both sizes 60 waypoints are the chain)
     for (i, [small, _]) in laid.iter().enumerate().take(2) {
         let name = small.name.trim_start_matches("N = 64, ");

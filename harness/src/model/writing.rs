@@ -54,6 +54,16 @@ impl Course {
         }
     }
 
+    /// N14, then its sheet at the front of the page; the sheet's length.
+    pub(super) fn put_on(&self, page: &mut [u8]) -> Result<usize, u64> {
+        let sheet = self.sheet();
+        if page.len() < sheet.len() {
+            return Err(PAGE);
+        }
+        page[..sheet.len()].copy_from_slice(&sheet);
+        Ok(sheet.len())
+    }
+
     /// S2 to S8.
     fn sheet(&self) -> Vec<u8> {
         let mut sheet = vec![];
@@ -75,11 +85,5 @@ fn put(sheet: &mut Vec<u8>, bytes: usize, number: i128) {
 
 /// A11: the sheet at the front of the page; its length.
 pub fn write(lists: &Lists, page: &mut [u8]) -> Result<usize, u64> {
-    let sheet = lists.course()?.sheet();
-    // N14
-    if page.len() < sheet.len() {
-        return Err(PAGE);
-    }
-    page[..sheet.len()].copy_from_slice(&sheet);
-    Ok(sheet.len())
+    lists.course()?.put_on(page)
 }

@@ -20,10 +20,13 @@ pub struct Comparison {
     pub without_room: u64,
     /// How often each call gave each answer, by [`Call::index`].
     pub answers: [[u64; WORDS.len()]; NAMES.len()],
+    /// How often a joining was refused for its first sheet, and for its second, by number (1 to 8).
+    pub unjoined: [[u64; 9]; 2],
     pub stand: Stand,
     /// The library, and with it its functions over structs and the C files or not.
     pub implementations: &'static [Calls],
     sheet: Fenced<u8>,
+    second: Fenced<u8>,
     legs: Fenced<u64>,
     waypoints: Fenced<i64>,
     slopes: Fenced<i64>,
@@ -48,9 +51,11 @@ impl Comparison {
             calls: 0,
             without_room: 0,
             answers: [[0; WORDS.len()]; NAMES.len()],
+            unjoined: [[0; 9]; 2],
             stand,
             implementations: &ALL,
             sheet: Fenced::new(1 << 20),
+            second: Fenced::new(1 << 20),
             legs: Fenced::new(1 << 17),
             waypoints: Fenced::new(1 << 18),
             slopes: Fenced::new(64),
@@ -76,7 +81,10 @@ impl Comparison {
     /// One call by one implementation, in memory with fences.
     pub fn call(&mut self, calls: &Calls, call: &Call, sheet: &[u8], before: &Lent) -> (u64, Lent) {
         let lists = if let Call::Write(lists) = call { lists } else { &NO_LISTS };
+        let other: &[u8] = if let Call::Join(second) = call { second } else { &[] };
         let lent_sheet: &[u8] = self.sheet.lend(sheet, self.stand);
+        // a sheet that is joined with itself is lent once: the two may share their memory
+        let second: &[u8] = if other == sheet { lent_sheet } else { self.second.lend(other, self.stand) };
         let legs: &[u64] = self.legs.lend(&lists.legs, self.stand);
         let waypoints: &[i64] = self.waypoints.lend(&lists.waypoints, self.stand);
         let slopes: &[i64] = self.slopes.lend(&lists.slopes, self.stand);
@@ -85,11 +93,11 @@ impl Comparison {
         let place = self.place.lend(&before.place, self.stand);
         let page = self.page.lend(&before.page, self.stand);
         let doing = Doing { part: self.part.name(), seed: self.seed, case: self.case, implementation: calls.name, call, sheet };
-        let memory = Memory { sheet: lent_sheet, legs, waypoints, slopes, list, words, place, page };
+        let memory = Memory { sheet: lent_sheet, second, legs, waypoints, slopes, list, words, place, page };
         let answer = hit::watched(&doing, || call.by(calls, memory));
         let after = Lent { list: list.to_vec(), words: words.to_vec(), place: place.to_vec(), page: page.to_vec() };
-        let kept = lent_sheet == sheet && legs == lists.legs && waypoints == lists.waypoints && slopes == lists.slopes;
-        self.tally.check(Part::Memory, kept, || format!("{} {call:?} wrote its lists or the sheet {}", calls.name, hex(sheet)));
+        let kept = lent_sheet == sheet && legs == lists.legs && waypoints == lists.waypoints && slopes == lists.slopes && second == other;
+        self.tally.check(Part::Memory, kept, || format!("{} {call:?} wrote its lists or a sheet, of {}", calls.name, hex(sheet)));
         (answer, after)
     }
 
@@ -145,6 +153,7 @@ fn by_wrapper(call: &Call, sheet: &[u8], lent: &mut Lent) -> Result<(), Refusal>
         Call::Step => moved(sheet, &mut lent.words, wrapper::step),
         Call::Back => moved(sheet, &mut lent.words, wrapper::back),
         Call::Write(ref lists) => wrapper::write(lists, &mut lent.page).map(|length| lent.words[0] = length as u64),
+        Call::Join(ref second) => wrapper::join(sheet, second, &mut lent.page).map(|length| lent.words[0] = length as u64),
     }
 }
 

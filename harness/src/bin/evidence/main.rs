@@ -8,6 +8,7 @@ mod compare;
 mod distance;
 mod header;
 mod hit;
+mod joins;
 mod parts;
 mod sheets;
 mod walks;

@@ -20,6 +20,8 @@ pub enum Part {
     Memory,
     /// Sheets from lists that the library writes, and reads again (G5, G6).
     RoundTrips,
+    /// Sheets that the library joins, reads again and lays out, with every waypoint of the two at its tick (J3, J4).
+    Joined,
     /// Each number that a call tests was reached, no other.
     Answers,
     /// Bend numbers against the elimination in floats.
@@ -49,7 +51,7 @@ pub enum Part {
 }
 
 /// The parts' names, in the order above.
-pub const NAMES: [&str; 21] = [
+pub const NAMES: [&str; 22] = [
     "worked",
     "header",
     "calls",
@@ -58,6 +60,7 @@ pub const NAMES: [&str; 21] = [
     "wrapper",
     "memory",
     "round-trips",
+    "joined",
     "answers",
     "bends",
     "places",

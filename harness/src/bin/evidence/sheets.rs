@@ -2,7 +2,7 @@
 
 use crate::compare::{Comparison, ALL};
 use crate::parts::Part;
-use crate::{writes, Options};
+use crate::{joins, writes, Options};
 use harness::boundary::{Call, Lent, NAMES, TESTS};
 use harness::fence::Stand;
 use harness::lists;
@@ -41,7 +41,7 @@ pub fn run(options: &Options, comparison: &mut Comparison) {
     coverage(comparison, all);
 }
 
-/// One sheet on every call, and its lists, or those of another sheet where it is refused.
+/// One sheet on every call, and its lists, or those of another sheet where it is refused; and a pair to join.
 fn one_sheet(random: &mut Random, comparison: &mut Comparison, of_kind: &mut [u64; 3]) {
     let sheet = match random.below(10) {
         0..=3 => sheets::accepted(random).bytes(),
@@ -61,6 +61,7 @@ fn one_sheet(random: &mut Random, comparison: &mut Comparison, of_kind: &mut [u6
         }
     };
     writes::run(random, comparison, &lists, &accepted);
+    joins::run(random, comparison);
 }
 
 /// What is lent, filled with numbers that a call must replace or leave.
@@ -90,7 +91,7 @@ pub fn try_call(random: &mut Random, comparison: &mut Comparison, call: Call, sh
     after
 }
 
-/// Each call that gets a sheet once, with anything lent.
+/// Each call that gets one sheet once, with anything lent.
 fn on_refused(random: &mut Random, comparison: &mut Comparison, sheet: &[u8]) {
     let list = random.pick(&[0, 1, 6, 9, 40, 1536]);
     let (words, place) = (random.below(5), random.below(5));
@@ -228,7 +229,8 @@ fn runner(random: &mut Random, course: &Course) -> [u64; 2] {
     [leg as u64, offset]
 }
 
-/// Prints how often each call gave each number. In a run of some size each number that a call tests must have been reached; no other may.
+/// Prints how often each call gave each number. In a run of some size each number that a call tests must have been reached, by a joining 1
+/// to 8 for either sheet; no other may.
 fn coverage(comparison: &mut Comparison, all: bool) {
     println!("answers: {:>12} {}", "", NAMES.map(|name| format!("{name:>16}")).join(""));
     for (number, word) in WORDS.iter().enumerate() {
@@ -247,6 +249,12 @@ fn coverage(comparison: &mut Comparison, all: bool) {
             comparison.require(if all { reached == tested } else { tested || !reached }, || {
                 format!("{} answered {number}: {reached}; it has to test that: {tested}", NAMES[index])
             });
+        }
+    }
+    for (sheet, counts) in ["first", "second"].iter().zip(comparison.unjoined) {
+        println!("  a joining was refused for its {sheet} sheet, by 1 to 8: {:?}", &counts[1..]);
+        for (number, count) in counts.iter().enumerate().skip(1) {
+            comparison.require(!all || *count > 0, || format!("no joining was refused by {number} for its {sheet} sheet"));
         }
     }
 }

@@ -5,6 +5,7 @@ use crate::parts::Part;
 use harness::boundary::{Call, Lent};
 use harness::lists::of_draft;
 use harness::model::Lists;
+use harness::pairs;
 use harness::random::Random;
 use harness::sheets::{chain, Draft, CLOSED, FREE, HELD};
 
@@ -24,6 +25,11 @@ pub fn courses() -> Vec<Worked> {
         (square, &[0, -49_152, 0, 49_152], &[(1, 4), (7, -4), (18_446_744_073_709_551_615, -4)]),
         (Draft::of(FREE, &[5], &[3, -4], None), &[0, 0], &[]),
     ]
+}
+
+/// T5: course A with its three axes.
+fn course_a() -> Draft {
+    Draft { points: vec![[0, 10, 20], [8, 10, 22], [0, 10, 24]], ..Draft::of(FREE, &[2, 2], &[0; 3], None) }
 }
 
 /// W10: sheets with what reading them answers.
@@ -92,7 +98,6 @@ fn expect(
 pub fn run(comparison: &mut Comparison) {
     comparison.part = Part::Worked;
     let lent = |list: Vec<i64>| Lent { list, words: vec![u64::MAX; 3], place: vec![i64::MAX; 3], page: vec![] };
-    let place = |answer: u64, after: &Lent| format!("{answer} {:?}", after.place);
 
     for (draft, bends, places) in courses() {
         let sheet = draft.bytes();
@@ -112,9 +117,7 @@ pub fn run(comparison: &mut Comparison) {
     comparison.compare(&Call::LayOut, &sheet, &lent(vec![77; 192]));
 
     // T5: course A whole, and W10's tick past its last
-    let mut a = Draft::of(FREE, &[2, 2], &[0, 8, 0], None);
-    a.points = vec![[0, 10, 20], [8, 10, 22], [0, 10, 24]];
-    let a = a.bytes();
+    let a = course_a().bytes();
     let (_, laid_out) = comparison.compare(&Call::LayOut, &a, &lent(vec![0; 9]));
     let wanted = ["0 [0, 10, 20]", "0 [6, 10, 21]", "0 [8, 10, 22]", "0 [6, 10, 23]", "0 [0, 10, 24]", "10 [-1, -1, -1]"];
     for (tick, wanted) in wanted.iter().enumerate() {
@@ -125,7 +128,13 @@ pub fn run(comparison: &mut Comparison) {
     reaching(comparison);
     writing(comparison);
     going_back(comparison);
+    joining(comparison);
     println!("worked courses: {} comparisons with the figures of group W", comparison.tally.compared(Part::Worked));
+}
+
+/// An answer and the place that it leaves.
+fn place(answer: u64, after: &Lent) -> String {
+    format!("{answer} {:?}", after.place)
 }
 
 /// An answer and the runner that it leaves.
@@ -203,4 +212,56 @@ fn going_back(comparison: &mut Comparison) {
     back(&a, [0, 2], "11 [0, 2]");
     back(&square, [4, 0], "11 [4, 0]");
     back(&[], [0, 0], "1 [0, 0]");
+}
+
+/// One joining into a page of so many bytes; what it leaves.
+fn joined(comparison: &mut Comparison, first: &[u8], second: &[u8], page: usize, wanted: &str) -> Lent {
+    let before = Lent { words: vec![u64::MAX; 3], page: vec![0xee; page], ..Lent::default() };
+    expect(comparison, &Call::Join(second.to_vec()), first, &before, wanted.to_string(), written_page)
+}
+
+/// W15: course A and one that starts where it ends; and the order of A13.
+fn joining(comparison: &mut Comparison) {
+    const SHEET: &str = "0000003e01000004000200020003000000000000000a00000014000000080000000a00000016000000000000000a00000018\
+                         000000090000000a00000018";
+    let from = |up: i32| Draft { points: vec![[0, 10, up], [9, 10, 24]], ..Draft::of(FREE, &[3], &[0; 2], None) };
+    let held = |draft: Draft| Draft { kind: HELD, slopes: vec![0; 6], ..draft };
+    let [a, held_a, onward, apart, held_apart, no_leg] =
+        [course_a(), held(course_a()), from(24), from(25), held(from(25)), Draft { legs: vec![0], ..from(24) }].map(|draft| draft.bytes());
+    let sheet = joined(comparison, &a, &onward, 62, &format!("0 62 {SHEET}")).page;
+    joined(comparison, &a, &onward, 64, &format!("0 62 {SHEET}eeee"));
+    joined(comparison, &a, &onward, 61, &format!("14 -1 {}", "ee".repeat(61)));
+    joined(comparison, &onward, &a, 62, &format!("17 -1 {}", "ee".repeat(62)));
+    let refused: [(&[u8], &[u8], u64); 8] = [
+        (&a, &apart, 17),
+        (&a, &held_apart, 16),
+        (&held_a, &onward, 16),
+        (&held_a, &no_leg, 6),
+        (&a, &[], 1),
+        (&held_a, &[], 1),
+        (&no_leg, &[], 6),
+        (&[], &no_leg, 1),
+    ];
+    for (first, second, number) in refused {
+        joined(comparison, first, second, 2, &format!("{number} -1 eeee"));
+    }
+    let before = Lent { list: vec![0; 12], place: vec![-1; 3], ..Lent::default() };
+    let (_, laid_out) = comparison.compare(&Call::LayOut, &sheet, &before);
+    for (tick, wanted) in [(4, "0 [0, 10, 24]"), (7, "0 [9, 10, 24]")] {
+        expect(comparison, &Call::PlaceAtTick { tick }, &sheet, &laid_out, wanted.to_string(), place);
+    }
+    most_joined(comparison);
+}
+
+/// W15: 300 waypoints with 213 and with 214, from a course of so many waypoints, cut at its waypoint 299.
+fn most_joined(comparison: &mut Comparison) {
+    let long = |n: u16| Draft::of(FREE, &(1..n).map(|i| 1 + i % 256).collect::<Vec<u16>>(), &(0..n.into()).collect::<Vec<i32>>(), None);
+    let parts = |n: u16| pairs::cut(&long(n), 299).map(|part| part.bytes());
+    let [first, second] = parts(512);
+    joined(comparison, &first, &second, 7_174, &format!("0 7174 {}", digits(&long(512).bytes())));
+    let [first, second] = parts(513);
+    joined(comparison, &first, &second, 7_188, &format!("18 -1 {}", "ee".repeat(7_188)));
+    // 18 before 14, 17 before 18
+    joined(comparison, &first, &second, 2, "18 -1 eeee");
+    joined(comparison, &second, &first, 2, "17 -1 eeee");
 }

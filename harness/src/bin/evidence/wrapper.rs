@@ -49,3 +49,8 @@ pub fn write(lists: &Lists, page: &mut [u8]) -> Result<usize, Refusal> {
     let kind = [EndKind::Free, EndKind::Held, EndKind::Closed][lists.kind as usize];
     station::write(kind, &lists.legs, &lists.waypoints, &lists.slopes, page)
 }
+
+/// The joined sheet's length.
+pub fn join(first: &[u8], second: &[u8], page: &mut [u8]) -> Result<usize, Refusal> {
+    station::join(first, second, page)
+}

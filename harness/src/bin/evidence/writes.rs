@@ -22,14 +22,9 @@ pub fn run(random: &mut Random, comparison: &mut Comparison, own: &Lists, sheet:
 
 /// One writing by the model and by the others.
 fn compare(random: &mut Random, comparison: &mut Comparison, lists: Lists) {
-    let before = Lent { page: page(random, &lists), ..words(random) };
+    let need = 8 + 2 * lists.legs.len() + 4 * (lists.waypoints.len() + lists.slopes.len());
+    let before = lent_page(random, need);
     try_call(random, comparison, Call::Write(lists), &[], &before);
-}
-
-/// The out for a sheet's length, mostly with a place for it.
-fn words(random: &mut Random) -> Lent {
-    let words = room(random, 1);
-    lent(random, 0, words, 0)
 }
 
 /// G5, G6: the library writes this very sheet from its lists, keeps what stands behind it in the page, and reads it again.
@@ -50,18 +45,21 @@ fn round_trip(random: &mut Random, comparison: &mut Comparison, own: &Lists, she
     });
 }
 
-/// A page for a sheet from these lists: long enough, longer, or too short; for lists that no sheet has, of some such length.
-fn page(random: &mut Random, lists: &Lists) -> Vec<u8> {
-    let need = (8 + 2 * lists.legs.len() + 4 * (lists.waypoints.len() + lists.slopes.len())).min(8_000);
+/// A page for a sheet of so many bytes, long enough, longer, or too short; where that is more than any sheet has, of some such length. And
+/// the out for the sheet's length, mostly with a place for it.
+pub fn lent_page(random: &mut Random, need: usize) -> Lent {
+    let words = room(random, 1);
+    let lent = lent(random, 0, words, 0);
+    let need = need.clamp(8, 8_000);
     let length = match random.below(8) {
         0 => random.pick(&[0, 7, need / 2, need - 1, need - 1]),
         1 | 2 => need + random.pick(&[1, 2, 40]),
         _ => need,
     };
-    bytes(random, length)
+    Lent { page: bytes(random, length), ..lent }
 }
 
 /// Bytes that a call must replace or leave.
-fn bytes(random: &mut Random, length: usize) -> Vec<u8> {
+pub fn bytes(random: &mut Random, length: usize) -> Vec<u8> {
     (0..length).map(|_| random.word() as u8).collect()
 }
