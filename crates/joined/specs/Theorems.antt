@@ -48,8 +48,8 @@ pub record InTurn (j s t : List ℕ) : Type 0 where
   pub second-waypoint : (axis i : ℕ) → axis < 3 → i < points t → waypoint j axis (points s - 1 + i) ≡ waypoint t axis i
   pub all-ticks : ticks j ≡ ticks s + ticks t
 
--- J1, J3: the answer is the joined sheet's length, the slice begins with that sheet and is behind it as it was, the sheet is accepted, and its fields are
--- those of both in turn, one by one and as a whole
+-- J1, J3: the answer is the joined sheet's length, the slice begins with that sheet and is behind it as it was, the sheet is accepted, and it has the fields
+-- of both in turn, one by one and as a whole
 pub record WellJoined (s t out : List ℕ) : Type 0 where
   pub meeting : Meeting s t
   pub answered : joinSheets s t (length out) ≡ toldWritten (Length (length (joinedSheet s t)))
