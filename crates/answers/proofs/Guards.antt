@@ -1,4 +1,5 @@
--- A call's tests and what it leaves, once for all calls: one test in its chain (specs/Answers), and what was lent, by its number (A9). For every later crate.
+-- A call's tests and what it leaves, once for all calls: one test in its chain (specs/Answers), reading in front of it (A8), and what was lent, by its number
+-- (A9). For every later crate.
 use mathlib.Core.Path.{_≡_, refl, sym, ap, _∙_}
 use mathlib.Core.Bool.{Bool, true, false, cond}
 use mathlib.Core.List.{List}
@@ -51,6 +52,8 @@ module _ {A : Type 0} (t : Told) (new old : A) where
   pub done-changes : t .number ≡ 0 → cond (eqb (t .number) 0) new old ≡ new
   done-changes e = ap (λ (b : Bool). cond b new old) (eq-eqb (t .number) 0 e)
 
+  pub number-keeps : (t .number ≡ 0 → ⊥) → cond (eqb (t .number) 0) new old ≡ old
+  number-keeps h = ap (λ (b : Bool). cond b new old) (ne-eqb (t .number) 0 h)
+
   pub refused-keeps : (r : Refusal) → refused r ≡ t → cond (eqb (t .number) 0) new old ≡ old
-  refused-keeps r e =
-      ap (λ (b : Bool). cond b new old) (ne-eqb (t .number) 0 (λ z. never-zero r (ap (λ (u : Told). u .number) e ∙ z)))
+  refused-keeps r e = number-keeps (λ z. never-zero r (ap (λ (u : Told). u .number) e ∙ z))

@@ -1,4 +1,4 @@
-// What every call after reading shares: its outcome, and the reader's refusal passed on (A8). For layout, runner, place, exports and output.
+// What every call after reading shares: its outcome, and the reader's refusal passed on (A8). For layout, runner, place, join, exports and output.
 use sheet::Reading;
 use sheet::Refusal;
 ghost use Rattle.answers.specs.Answers.{Carries};

@@ -1,13 +1,9 @@
 -- A refused call passes reading's number on and keeps what was lent: each call's definition begins with the reader's answer, and what it leaves asks its number.
-use mathlib.Core.Path.{_≡_, refl, sym, _∙_}
-use mathlib.Core.Bool.{cond}
-use lib.Dec.{eqb}
+use mathlib.Core.Path.{sym, _∙_}
 use lib.ListN.{length}
-use Rattle.sheet.specs.Answers.{Told}
-use Rattle.spline.proofs.Waypoints.{by-equal}
 use Rattle.lists.specs.Answer.{writeSheet}
 use Rattle.writer.specs.Writing.{writtenInto}
-use Rattle.answers.proofs.Guards.{read-on}
+use Rattle.answers.proofs.Guards.{read-on, number-keeps}
 use Rattle.join.specs.Joining.{joinSheets, joinedInto}
 use Rattle.layout.specs.Layout.{layOut, laidOut}
 use Rattle.runner.specs.Ticks.{runnerAtTick}
@@ -29,18 +25,14 @@ refusal-passed-on s q e = record {
   join-second = λ t room a. sym (read-on t a _) ∙ rw e;
 }
 
--- what a call leaves, by its number
-kept : {A : Type 0} (t : Told) (new old : A) → ¬ (t .number ≡ 0) → cond (eqb (t .number) 0) new old ≡ old
-kept t new old refused = by-equal (t .number) 0 new old (λ x. x ≡ old) (λ e. absurd (refused e)) (λ _. refl)
-
 pub refused-keeps-list : RefusedKeepsList
 unfolding laidOut
-refused-keeps-list s list = kept (layOut s (length list)) _ list
+refused-keeps-list s list = number-keeps (layOut s (length list)) _ list
 
 pub refused-keeps-record : RefusedKeepsRecord
 unfolding onward backward
-refused-keeps-record s r = (kept (stepped s r) (moved s r) r, kept (backed s r) (movedBack s r) r)
+refused-keeps-record s r = (number-keeps (stepped s r) (moved s r) r, number-keeps (backed s r) (movedBack s r) r)
 
 pub refused-keeps-slice : RefusedKeepsSlice
 unfolding writtenInto joinedInto
-refused-keeps-slice = ((λ c out. kept (writeSheet c (length out)) _ out), (λ s t out. kept (joinSheets s t (length out)) _ out))
+refused-keeps-slice = ((λ c out. number-keeps (writeSheet c (length out)) _ out), (λ s t out. number-keeps (joinSheets s t (length out)) _ out))

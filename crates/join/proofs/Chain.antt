@@ -28,10 +28,21 @@ use Rattle.join.specs.Inside.{BothFree}
 use Rattle.join.proofs.Course.{writable-joined}
 use Rattle.join.proofs.Worked as worked
 
-pub free-ended : (k : EndKind) → isShut k ≡ false → k ≡ Free
+free-ended : (k : EndKind) → isShut k ≡ false → k ≡ Free
 free-ended Free e = refl
 free-ended Held e = absurd (false≢true (sym e))
 free-ended Closed e = absurd (false≢true (sym e))
+
+-- two accepted sheets that are not shut
+pub both-free : (s : List ℕ) (n : ℕ) (t : List ℕ) (m : ℕ) → Accepted s → Accepted t → shut s t ≡ false → n ≡ points s → m ≡ points t → BothFree s n t m
+both-free s n t m a b e n-is m-is = record {
+  first = a;
+  second = b;
+  first-free = free-ended (kind s) (or-left (isShut (kind s)) (isShut (kind t)) e);
+  second-free = free-ended (kind t) (or-right (isShut (kind s)) (isShut (kind t)) e);
+  first-points = n-is;
+  second-points = m-is;
+}
 
 module _ (s t : List ℕ) (room : ℕ) where
   abbrev size : ℕ
@@ -102,14 +113,7 @@ module _ (s t : List ℕ) (room : ℕ) where
       let e = not-refused (crowded s t) Crowded behindCrowded (d .1) in
       let f = not-refused (ltb room size) Page (toldWritten (Length size)) (e .1) in
       record {
-        free = record {
-          first = a .0;
-          second = b .0;
-          first-free = free-ended (kind s) (or-left (isShut (kind s)) (isShut (kind t)) (c .0));
-          second-free = free-ended (kind t) (or-right (isShut (kind s)) (isShut (kind t)) (c .0));
-          first-points = refl;
-          second-points = refl;
-        };
+        free = both-free s (points s) t (points t) (a .0) (b .0) (c .0) refl refl;
         meet = d .0;
         few = ltb-false mostPoints (pointsIn (joinedLists s t .waypoints)) (e .0);
         fits = ltb-false room size (f .0);

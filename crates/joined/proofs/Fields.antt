@@ -44,7 +44,7 @@ module _ (s t out : List ℕ) (done : joinSheets s t (length out) .number ≡ 0)
   m-counts = second-counts s (points s) t (points t) (passes .free)
 
   -- writing the joined lists is not refused, so that what is proved of written sheets holds
-  pub written : WellWritten c out
+  written : WellWritten c out
   written =
       let w = writable-joined s (points s) t (points t) (passes .free) (passes .few) in
       written-accepted c out (sym (ap (λ (x : Told). x .number) (answered c (length out) (nothing-applies c (length out) w (passes .fits)))))

@@ -38,7 +38,7 @@ abbrev pub CrowdedWhereMore : Type 0
 CrowdedWhereMore = (s t : List ℕ) → Meeting s t → 513 < points s + points t → (room : ℕ) → joinSheets s t room ≡ refused Crowded
 
 -- J2, J3: j has the legs and the waypoints of s and t in turn, the shared waypoint once, and free ends
-pub record InTurn (j s t : List ℕ) : Type 0 where
+pub record FieldsInTurn (j s t : List ℕ) : Type 0 where
   pub free : kind j ≡ Free
   pub all-points : points j + 1 ≡ points s + points t
   pub all-legs : legs j ≡ legs s + legs t
@@ -55,7 +55,7 @@ pub record WellJoined (s t out : List ℕ) : Type 0 where
   pub answered : joinSheets s t (length out) ≡ toldWritten (Length (length (joinedSheet s t)))
   pub slice : joinedInto s t out ≡ joinedSheet s t ++ drop (length (joinedSheet s t)) out
   pub accepted : Accepted (joinedSheet s t)
-  pub fields : InTurn (joinedSheet s t) s t
+  pub fields : FieldsInTurn (joinedSheet s t) s t
   pub whole : listsOf (joinedSheet s t) ≡ joinedLists s t
 
 -- so it is where joining is not refused

@@ -7,16 +7,15 @@ use borrow.Author.Tests.{lt-ltb, le-ltb}
 use lib.IntN.{ℤ, pos}
 use lib.ListN.{length, drop, replicate}
 use Rattle.sheet.specs.Answers.{Told, refused}
-use Rattle.sheet.specs.Fields.{kind, points, ticks}
+use Rattle.sheet.specs.Fields.{points}
 use Rattle.sheet.specs.Bytes.{be16, be32, signed32, anyBelow, sumBelow}
 use Rattle.sheet.specs.Reading.{readBy, readSheet, Accepted}
 use Rattle.sheet.specs.declared.Refusal.{Refusal}
 use Rattle.sheet.specs.declared.Refusal.the-variants.{Shelf}
 use Rattle.sheet.specs.declared.Reading.{Reading}
-use Rattle.sheet.specs.declared.Reading.the-variants.{Course, Refused}
-use Rattle.sheet.proofs.Laws.{accepted-read}
+use Rattle.sheet.specs.declared.Reading.the-variants.{Refused}
 use Rattle.answers.specs.Answers.{done, passOn, guard}
-use Rattle.answers.proofs.Guards.{done-changes, refused-keeps}
+use Rattle.answers.proofs.Guards.{read-on, done-changes, refused-keeps}
 use Rattle.systems.specs.Passes.{turn, sweep, pass, passes}
 use Rattle.spline.specs.Spline.{freeRow, along, rowOf, rowsBy}
 use Rattle.layout.specs.Course.{course}
@@ -28,17 +27,14 @@ unfolding turn sweep pass passes be16 be32 signed32 anyBelow sumBelow readBy fre
 rest-tried = refl
 
 module _ (s : List ℕ) (room : ℕ) where
-  -- the reader's answer decides first
-  read-decides : (a : Reading) → readSheet s ≡ a → layOut s room ≡ passOn a (guard (short s room) Shelf done)
-  unfolding layOut
-  read-decides a e = ap (λ (x : Reading). passOn x (guard (short s room) Shelf done)) e
-
   pub refused-answer : (r : Refusal) → readSheet s ≡ Refused r → layOut s room ≡ refused r
-  refused-answer r e = read-decides (Refused r) e
+  unfolding layOut
+  refused-answer r e = ap (λ (x : Reading). passOn x (guard (short s room) Shelf done)) e
 
   module _ (a : Accepted s) where
     accepted-answer : layOut s room ≡ guard (short s room) Shelf done
-    accepted-answer = read-decides (Course (kind s) (points s) (ticks s)) (accepted-read s a)
+    unfolding layOut
+    accepted-answer = sym (read-on s a (guard (short s room) Shelf done))
 
     pub short-answer : room < 3 * points s → layOut s room ≡ refused Shelf
     short-answer h = accepted-answer ∙ ap (λ (b : Bool). guard b Shelf done) (lt-ltb room (3 * points s) h)

@@ -1,4 +1,4 @@
--- What writing a sheet answers (A11, G2 to G4), refused calls too. For lists, writer and exports.
+-- What writing a sheet answers (A11, G2 to G4), refused calls too. For lists, writer, join and exports.
 use mathlib.Core.Bool.{Bool, not, _||_}
 use mathlib.Core.List.{List, [], _∷_}
 use Prim.Native.Nat.{ℕ, _*_}

@@ -1,4 +1,4 @@
--- A course as lists in the sheet's order (G1, G2), and the lists that a sheet's fields make. For the writer and its theorems.
+-- A course as lists in the sheet's order (G1, G2), and the lists that a sheet's fields make. For writer, join and their theorems.
 use mathlib.Core.List.{List, [], _∷_}
 use Prim.Native.Nat.{ℕ, zero, suc, _+_, _*_, _/_, _%_}
 use lib.IntN.{ℤ, pos}

@@ -57,7 +57,7 @@ kind-back Free = refl
 kind-back Held = refl
 kind-back Closed = refl
 
-pub kind-injective : (j k : EndKind) → kindNumber j ≡ kindNumber k → j ≡ k
+kind-injective : (j k : EndKind) → kindNumber j ≡ kindNumber k → j ≡ k
 kind-injective j k e = sym (kind-back j) ∙ ap kindOf e ∙ kind-back k
 
 -- ---- an answer

@@ -1,4 +1,4 @@
--- Bytes put over a slice's from a place on (specs/Inside): stores one by one, and one run of bytes behind another. For the proofs of put.
+-- Bytes put over a slice's from a place on (specs/Inside): stores one by one, one run of bytes behind another, and a copied part. For the proofs of put, here and in join.
 use mathlib.Core.Path.{_≡_, sym, ap, _∙_}
 use mathlib.Core.List.{List, [], _∷_, _++_, append-assoc, append-nil}
 use Prim.Native.Nat.{ℕ, suc, _+_, _≤_}

@@ -1,5 +1,5 @@
 -- The written sheet in its parts: head, legs, waypoints, slopes; where it is cut, how long each part is, and that its numbers fit their fields.
--- For the proofs of put and crate written.
+-- For the proofs of put, and crates written and join.
 use mathlib.Core.Path.{_≡_, refl, sym, ap, _∙_}
 use mathlib.Core.List.{List, [], _++_, flatMap, append-assoc, append-nil}
 use Prim.Native.Nat.{ℕ, _+_, _*_, _/_, _%_, _<_}

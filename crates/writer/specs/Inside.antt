@@ -1,4 +1,4 @@
--- What the writer's functions ask of each other: bytes put over others. Not cited by the entry point's promise.
+-- What functions that put bytes into a slice ask of each other, here and in join. Not cited by an entry point's promise.
 use mathlib.Core.List.{List, _++_}
 use Prim.Native.Nat.{ℕ, _+_}
 use lib.ListN.{length, take, drop}

@@ -1,4 +1,4 @@
--- The bytes of the sheet that lists make (S1 to S8, G5). For the writer's promise and its theorems.
+-- The bytes of the sheet that lists make (S1 to S8, G5). For the promises of writer and join, and their theorems.
 use mathlib.Core.List.{List, [], _∷_, _++_, flatMap}
 use Prim.Native.Nat.{ℕ, _-_, _/_, _%_}
 use lib.IntN.{ℤ, pos, negsuc}

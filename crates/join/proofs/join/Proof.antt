@@ -13,7 +13,6 @@ use Rattle.sheet.specs.Answers.{Told}
 use Rattle.sheet.specs.Fields.{kind, points, ticks, sheetLength}
 use Rattle.sheet.specs.Reading.{Accepted, mostPoints}
 use Rattle.sheet.specs.declared.Refusal.the-variants.{Page, Shut, Apart, Crowded}
-use Rattle.sheet.proofs.Below.{or-left, or-right}
 use Rattle.sheet.proofs.Laws.{course-read}
 use Rattle.answers.proofs.Guards.{passed-on}
 use Rattle.lists.specs.Lists.{pointsIn, sizeOf}
@@ -22,7 +21,7 @@ use Rattle.lists.specs.declared.Written.the-variants.{Length}
 use Rattle.join.specs.Joining.{isShut, shut, apart, crowded, joinedLists, joinSheets}
 use Rattle.join.specs.Inside.{BothFree}
 use Rattle.join.proofs.Course.{Counts, first-counts, second-counts, count-joined}
-use Rattle.join.proofs.Chain.{free-ended, after-first, shut-stops, apart-stops, crowded-stops, page-stops, all-passed, kept, left-joined}
+use Rattle.join.proofs.Chain.{both-free, after-first, shut-stops, apart-stops, crowded-stops, page-stops, all-passed, kept, left-joined}
 use borrow.Author.Needs.{needs}
 use Rattle.join.proofs.join.Statement.{statement}
 use Rattle.join.proofs.join.Tie as tie
@@ -88,24 +87,17 @@ module _ (e : tie.Else1) where
   not-shut : shut (s k) (t k) ≡ false
   not-shut = sym (shut-asked (e .before)) ∙ e .if1 .left
 
-  both-free : BothFree (s k) (n k) (t k) (m q)
-  both-free = record {
-    first = first-read k .0;
-    second = second-read q .0;
-    first-free = free-ended (kind (s k)) (or-left (isShut (kind (s k))) (isShut (kind (t k))) not-shut);
-    second-free = free-ended (kind (t k)) (or-right (isShut (kind (s k))) (isShut (kind (t k))) not-shut);
-    first-points = first-read k .2;
-    second-points = second-read q .2;
-  }
+  free : BothFree (s k) (n k) (t k) (m q)
+  free = both-free (s k) (n k) (t k) (m q) (first-read k .0) (second-read q .0) not-shut (first-read k .2) (second-read q .2)
 
   abbrev n-counts : Counts (s k) (n k)
-  n-counts = first-counts (s k) (n k) (t k) (m q) both-free
+  n-counts = first-counts (s k) (n k) (t k) (m q) free
 
   abbrev m-counts : Counts (t k) (m q)
-  m-counts = second-counts (s k) (n k) (t k) (m q) both-free
+  m-counts = second-counts (s k) (n k) (t k) (m q) free
 
   count : pointsIn (joinedLists (s k) (t k) .waypoints) ≡ n k + m q - 1
-  count = count-joined (s k) (n k) (t k) (m q) both-free
+  count = count-joined (s k) (n k) (t k) (m q) free
 
 -- ---- behind 17 they meet, behind 18 they are few
 abbrev is-free : tie.Else2 → tie.Else1
@@ -169,13 +161,13 @@ returns-3 c =
     kept (s k) (t k) (out k) Shut (shut-stops (s k) (t k) (length (out k)) (first-read k .0) (second-read q .0) (sym (shut-asked (c .before)) ∙ c .if1 .taken))
 
 is-apart-requires : tie.Need-is-apart-requires
-is-apart-requires c κs = both-free c
+is-apart-requires c κs = free c
 
 returns-4 : tie.Need-returns-4
 returns-4 c =
     let x = c .before in let e = x .before in
     kept (s (k e)) (t (k e)) (out (k e)) Apart
-    (apart-stops (s (k e)) (t (k e)) (length (out (k e))) (both-free e .first) (both-free e .second) (not-shut e) (sym (x .is-apart .ensures) ∙ c .if2 .taken))
+    (apart-stops (s (k e)) (t (k e)) (length (out (k e))) (free e .first) (free e .second) (not-shut e) (sym (x .is-apart .ensures) ∙ c .if2 .taken))
 
 add-count : tie.Need-add-count
 add-count c = let e = is-free c in record { fits = omega (arith, n-counts e .few, m-counts e .few) }
@@ -187,7 +179,7 @@ returns-5 : tie.Need-returns-5
 returns-5 c =
     let f = c .before in let e = is-free f in
     kept (s (k e)) (t (k e)) (out (k e)) Crowded
-    (crowded-stops (s (k e)) (t (k e)) (length (out (k e))) (both-free e .first) (both-free e .second) (not-shut e) (meet f)
+    (crowded-stops (s (k e)) (t (k e)) (length (out (k e))) (free e .first) (free e .second) (not-shut e) (meet f)
     (lt-ltb mostPoints (pointsIn (joinedLists (s (k e)) (t (k e)) .waypoints)) (omega (arith, c .if3 .taken, count e))))
 
 sheet-length-requires : tie.Need-sheet-length-requires
@@ -198,12 +190,12 @@ returns-6 : tie.Need-returns-6
 returns-6 c =
     let z = c .before in let g = z .before in let f = g .before in let e = is-free f in
     kept (s (k e)) (t (k e)) (out (k e)) Page
-    (page-stops (s (k e)) (t (k e)) (length (out (k e))) (both-free e .first) (both-free e .second) (not-shut e) (meet f) (few g)
+    (page-stops (s (k e)) (t (k e)) (length (out (k e))) (free e .first) (free e .second) (not-shut e) (meet f) (few g)
     (lt-ltb (length (out (k e))) (sizeOf (joinedLists (s (k e)) (t (k e)))) (omega (arith, c .if4 .taken, size z))))
 
 put-joined-requires : tie.Need-put-joined-requires
 put-joined-requires c κs =
-    let z = c .before .before in let e = is-free (z .before .before) in (both-free e, size z, omega (arith, c .before .if4 .left))
+    let z = c .before .before in let e = is-free (z .before .before) in (free e, size z, omega (arith, c .before .if4 .left))
 
 same-length : tie.Need-same-length
 same-length c = search needs
@@ -213,7 +205,7 @@ returns-7 c =
     let p = c .before .before in let h = p .before .before in let z = h .before in let g = z .before in let f = g .before in let e = is-free f in
     let answer =
     ap (λ (n : ℕ). toldWritten (Length n)) (size z)
-    ∙ all-passed (s (k e)) (t (k e)) (length (out (k e))) (both-free e .first) (both-free e .second) (not-shut e) (meet f) (few g)
+    ∙ all-passed (s (k e)) (t (k e)) (length (out (k e))) (free e .first) (free e .second) (not-shut e) (meet f) (few g)
     (le-ltb (length (out (k e))) (sizeOf (joinedLists (s (k e)) (t (k e)))) (omega (arith, h .if4 .left, size z))) in
     (answer, p .put-joined .ensures ∙ left-joined (s (k e)) (t (k e)) (out (k e)) (sym (ap (λ (x : Told). x .number) answer)))
 

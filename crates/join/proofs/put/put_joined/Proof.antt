@@ -39,6 +39,9 @@ module _ (c : tie.Start) where
   abbrev m-counts : Counts t m
   m-counts = second-counts s n t m free
 
+  small : n + m ≤ 1024
+  small = omega (arith, n-counts .few, m-counts .few)
+
   room : 8 + 2 * (n - 1) + 2 * (m - 1) + 12 * n + 12 * (m - 1) ≤ length (c .args .sheet .now)
   room = omega (arith, n-counts .some, m-counts .some, size-joined s n t m free, c .pre .1, c .pre .2)
 
@@ -71,25 +74,25 @@ sub-legs : tie.Need-sub-legs
 sub-legs c = omega (arith, n-counts (c .before .before .before) .some)
 
 mul-legs : tie.Need-mul-legs
-mul-legs c = record { fits = omega (arith, n-counts (c .before .before .before) .few, m-counts (c .before .before .before) .few) }
+mul-legs c = record { fits = omega (arith, small (c .before .before .before)) }
 
 sub-more : tie.Need-sub-more
 sub-more c = omega (arith, m-counts (c .before .before .before) .some)
 
 mul-more : tie.Need-mul-more
-mul-more c = record { fits = omega (arith, n-counts (c .before .before .before) .few, m-counts (c .before .before .before) .few) }
+mul-more c = record { fits = omega (arith, small (c .before .before .before)) }
 
 add-from : tie.Need-add-from
-add-from c = record { fits = omega (arith, n-counts (c .before .before .before) .few, m-counts (c .before .before .before) .few) }
+add-from c = record { fits = omega (arith, small (c .before .before .before)) }
 
 add-from-2 : tie.Need-add-from-2
-add-from-2 c = record { fits = omega (arith, n-counts (c .before .before .before) .few, m-counts (c .before .before .before) .few) }
+add-from-2 c = record { fits = omega (arith, small (c .before .before .before)) }
 
 mul-points : tie.Need-mul-points
-mul-points c = record { fits = omega (arith, n-counts (c .before .before .before) .few, m-counts (c .before .before .before) .few) }
+mul-points c = record { fits = omega (arith, small (c .before .before .before)) }
 
 add-put-head : tie.Need-add-put-head
-add-put-head c = record { fits = omega (arith, n-counts (c .before .before .before .before) .few, m-counts (c .before .before .before .before) .few) }
+add-put-head c = record { fits = omega (arith, small (c .before .before .before .before)) }
 
 sub-put-head : tie.Need-sub-put-head
 sub-put-head c = omega (arith, n-counts (c .before .before .before .before) .some)
@@ -103,7 +106,7 @@ copy-part-requires c κs =
     (omega (arith, n-counts a .long), omega (arith, room a, h .put-head .kept .0))
 
 add-copy-part : tie.Need-add-copy-part
-add-copy-part c = let a = after-head (after-legs (c .before .before .before)) in record { fits = omega (arith, n-counts a .few) }
+add-copy-part c = let a = after-head (after-legs (c .before .before .before)) in record { fits = omega (arith, small a) }
 
 copy-part-requires-2 : tie.Need-copy-part-requires-2
 copy-part-requires-2 c κs =
@@ -111,7 +114,7 @@ copy-part-requires-2 c κs =
     (omega (arith, m-counts a .long), omega (arith, room a, h .put-head .kept .0, k .copy-part .kept .1 .1 .1 .0))
 
 add-copy-part-2 : tie.Need-add-copy-part-2
-add-copy-part-2 c = let a = after-head (after-legs (after-more (c .before .before))) in record { fits = omega (arith, n-counts a .few) }
+add-copy-part-2 c = let a = after-head (after-legs (after-more (c .before .before))) in record { fits = omega (arith, small a) }
 
 copy-part-requires-3 : tie.Need-copy-part-requires-3
 copy-part-requires-3 c κs =
@@ -119,17 +122,17 @@ copy-part-requires-3 c κs =
     (omega (arith, n-counts a .long), omega (arith, room a, h .put-head .kept .0, k .copy-part .kept .1 .1 .1 .0, j .copy-part2 .kept .1 .1 .1 .0))
 
 add-copy-part-3 : tie.Need-add-copy-part-3
-add-copy-part-3 c = let a = after-head (after-legs (after-more (after-points (c .before .before)))) in record { fits = omega (arith, m-counts a .few) }
+add-copy-part-3 c = let a = after-head (after-legs (after-more (after-points (c .before .before)))) in record { fits = omega (arith, small a) }
 
 sub-copy-part : tie.Need-sub-copy-part
 sub-copy-part c = let a = after-head (after-legs (after-more (after-points (c .before .before)))) in omega (arith, m-counts a .some)
 
 mul-copy-part : tie.Need-mul-copy-part
-mul-copy-part c = let a = after-head (after-legs (after-more (after-points (c .before .before)))) in record { fits = omega (arith, m-counts a .few) }
+mul-copy-part c = let a = after-head (after-legs (after-more (after-points (c .before .before)))) in record { fits = omega (arith, small a) }
 
 add-copy-part-4 : tie.Need-add-copy-part-4
 add-copy-part-4 c =
-    let a = after-head (after-legs (after-more (after-points (c .before .before .before)))) in record { fits = omega (arith, n-counts a .few, m-counts a .few) }
+    let a = after-head (after-legs (after-more (after-points (c .before .before .before)))) in record { fits = omega (arith, small a) }
 
 copy-part-requires-4 : tie.Need-copy-part-requires-4
 copy-part-requires-4 c κs =
