@@ -1,6 +1,6 @@
 -- W1 to W9 come out right, by computing the definitions.
 use mathlib.Core.Path.{refl}
-use Rattle.rounding.specs.Rounded.{floor, rounded}
+use Rattle.rounding.specs.Rounded.{rounded}
 use Rattle.systems.specs.Passes.{target, renewed, turn, sweep, pass, passes}
 use Rattle.sheet.specs.Bytes.{be16, be32, signed32, anyBelow, sumBelow}
 use Rattle.sheet.specs.Reading.{readBy}
@@ -13,7 +13,7 @@ use Rattle.place.specs.Places.{bendOutside, placeOn, placeAtTick}
 use Rattle.courses.specs.Starred.{StarredRight}
 
 pub starred-right : StarredRight
-unfolding floor rounded target renewed turn sweep pass passes be16 be32 signed32 anyBelow sumBelow readBy next prev stepAfter stepBefore innerRow freeRow heldStartRow heldEndRow along rowOf rowsBy numerator position course allBends layOut laidOut walk spotAt tickOf bendOutside placeOn placeAtTick
+unfolding rounded target renewed turn sweep pass passes be16 be32 signed32 anyBelow sumBelow readBy next prev stepAfter stepBefore innerRow freeRow heldStartRow heldEndRow along rowOf rowsBy numerator position course allBends layOut laidOut walk spotAt tickOf bendOutside placeOn placeAtTick
 starred-right = (
   (refl, refl, ((refl, refl, refl, (refl, tt)), tt)),
   (

@@ -9,7 +9,7 @@ use lib.IntN.{pos, negsuc, natAbs, _-ℤ_, _*ℤ_}
 use Rattle.integers.proofs.Ring.{_⊕_, _⊖_, _⊗_, ⊝_, #_}
 use Rattle.integers.proofs.Linear.{_≐_, _⊢_≗_with_, lin}
 use Rattle.integers.proofs.Order.{abs-mul}
-use Rattle.rounding.specs.Rounded.{floor, rounded}
+use Rattle.rounding.specs.Rounded.{rounded}
 use Rattle.ends.specs.declared.EndKind.the-variants.{Free}
 use Rattle.sheet.specs.Bytes.{be16, be32, signed32, anyBelow, sumBelow}
 use Rattle.sheet.specs.Reading.{Accepted, readBy}
@@ -59,7 +59,7 @@ not-near f e near = omega (
 )
 
 pub chord-not-near : ChordNotNear
-unfolding floor rounded target renewed turn sweep pass passes be16 be32 signed32 anyBelow sumBelow readBy next prev stepAfter stepBefore innerRow freeRow along rowOf rowsBy numerator position course allBends layOut laidOut walk spotAt bendOutside placeOn placeAtTick
+unfolding rounded target renewed turn sweep pass passes be16 be32 signed32 anyBelow sumBelow readBy next prev stepAfter stepBefore innerRow freeRow along rowOf rowsBy numerator position course allBends layOut laidOut walk spotAt bendOutside placeOn placeAtTick
 chord-not-near = record { bent = refl; chord = refl; far = not-near }
 
 pub free-pair-unbent : FreePairUnbent

@@ -37,12 +37,12 @@ starred =
     ∷ record {
       bytes = sheet Free (2 ∷ 2 ∷ []) (pos 0 ∷ pos 10 ∷ pos 20 ∷ negsuc 7 ∷ pos 10 ∷ pos 22 ∷ pos 0 ∷ pos 10 ∷ pos 24 ∷ []) [];
       bends = pos 0 ∷ pos 65_536 ∷ pos 0 ∷ [];
-      asked = record { tick = 1; stands = 1; given = negsuc 4; exactly = (negsuc 10, 2) ∷ [] } ∷ [];
+      asked = record { tick = 1; stands = 1; given = negsuc 5; exactly = (negsuc 10, 2) ∷ [] } ∷ [];
     }
     -- W3, K6
     ∷ record {
       bytes = sheet Free (1 ∷ 1 ∷ 1 ∷ []) (northward (pos 0 ∷ pos 1 ∷ pos 0 ∷ pos 0 ∷ [])) [];
-      bends = pos 0 ∷ negsuc 39_320 ∷ pos 26_214 ∷ pos 0 ∷ [];
+      bends = pos 0 ∷ negsuc 39_321 ∷ pos 26_215 ∷ pos 0 ∷ [];
       asked = [];
     }
     -- W4

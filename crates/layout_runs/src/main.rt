@@ -29,7 +29,7 @@ fn show(name: &[u8], s: &[u8]) {
 }
 
 // The chain: free, 49 waypoints, legs of 256, so that a row is z(i-1) + 4 z(i) + z(i+1) = w(i), the second difference of the values. At
-// w = 1, -2, 1, -2, .. each number is 0 as long as its neighbours are, and 1 or -1 once one of them is. North has a 4 as its last w: the
+// w = 1, -1, 1, -1, .. each number is 0 as long as its neighbours are, and 1 or -1 once one of them is. North has a 4 as its last w: the
 // change goes back one waypoint a pass, and pass 40 sets the ninth number, pass 41 the eighth. East has a 4 as its first w: one pass in
 // place takes the change along all waypoints; 40 passes that read only the pass before do not.
 const HEAD: [u8; 8] = [0, 0, 2, 180, 1, 0, 0, 49];
@@ -38,8 +38,7 @@ fn chain_value(axis: usize, i: usize) -> usize
     requires { ⌜ i < 49 ⌝ }
     ensures { λ r. ⌜ r < 65536 ⌝ }
 {
-    let m = i / 2;
-    let chain = 1000 + 2 * m - m * (m + i % 2);
+    let chain = 1000 + i / 2;
     match axis {
         0 => chain + 3 * (i / 48),
         1 => chain + 3 * (i - (i + 47) / 48),

@@ -1,6 +1,6 @@
 -- The two worked outputs, by computing the definitions.
 use mathlib.Core.Path.{refl}
-use Rattle.rounding.specs.Rounded.{floor, rounded}
+use Rattle.rounding.specs.Rounded.{rounded}
 use Rattle.systems.specs.Passes.{target, renewed, turn, sweep, pass, passes}
 use Rattle.sheet.specs.Bytes.{be16, be32, signed32, anyBelow, sumBelow}
 use Rattle.sheet.specs.Reading.{readBy}
@@ -15,7 +15,7 @@ use Rattle.output.specs.Output.{lineAt, linesFrom, output}
 use Rattle.output.specs.Theorems.{CourseA, LegRefused}
 
 pub course-a : CourseA
-unfolding floor rounded target renewed turn sweep pass passes be16 be32 signed32 anyBelow sumBelow readBy next prev stepAfter stepBefore innerRow freeRow heldStartRow heldEndRow along rowOf rowsBy numerator position course allBends layOut laidOut walk spotAt bendOutside placeOn placeAtTick decimal signed line lineAt linesFrom output
+unfolding rounded target renewed turn sweep pass passes be16 be32 signed32 anyBelow sumBelow readBy next prev stepAfter stepBefore innerRow freeRow heldStartRow heldEndRow along rowOf rowsBy numerator position course allBends layOut laidOut walk spotAt bendOutside placeOn placeAtTick decimal signed line lineAt linesFrom output
 course-a = refl
 
 pub leg-refused : LegRefused

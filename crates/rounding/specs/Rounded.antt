@@ -1,12 +1,12 @@
 -- Rounding (L4), of bend numbers and of places alike (L2, P1). Every promise and law about rounding speaks of `rounded`.
-use Prim.Native.Nat.{ℕ, _*_, _/_}
-use lib.IntN.{ℤ, pos, negsuc, _+ℤ_, _*ℤ_}
+use Prim.Native.Nat.{ℕ, suc, _+_, _*_, _/_}
+use lib.IntN.{ℤ, pos, negsuc, negℤ}
 
--- n / d rounded down. The numbers -1 to -d have the floor -1, the d numbers below them -2, and so on; `negsuc k` is -(k + 1).
-unfoldable pub floor : ℤ → ℕ → ℤ
-floor (pos n) d = pos (n / d)
-floor (negsuc k) d = negsuc (k / d)
+-- n / d to the nearest, a half going up, of natural numbers: the whole part of n / d + 1/2, which is (2n + d) / 2d
+abbrev pub nearest : ℕ → ℕ → ℕ
+nearest n d = (2 * n + d) / (2 * d)
 
--- L4: n / d to the nearest, a half upwards, which is the floor of n / d + 1/2, or of (2n + d) / 2d
+-- L4: n / d to the nearest, a half going away from zero: by n's size, with n's sign. `negsuc k` is -(k + 1).
 unfoldable pub rounded : ℤ → ℕ → ℤ
-rounded n d = floor (pos 2 *ℤ n +ℤ pos d) (2 * d)
+rounded (pos n) d = pos (nearest n d)
+rounded (negsuc k) d = negℤ (pos (nearest (suc k) d))

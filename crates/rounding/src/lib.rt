@@ -2,11 +2,11 @@
 // every divisor above 0; no sign is branched on. For layout and place.
 ghost use mathlib.Core.Bool.{cond};
 ghost use mathlib.Core.Path.{_≡_};
-ghost use lib.IntN.{pos, negℤ, natAbs, _*ℤ_};
+ghost use lib.IntN.{pos, natAbs, _*ℤ_};
 ghost use lib.Signed.{ltZ, _≤ℤ_};
 ghost use Rattle.rounding.specs.Rounded.{rounded};
 
-// 0 where the remainder is less than half of the divisor, otherwise 1
+// 0 where r is less than half of the divisor, otherwise 1
 fn goes_up(r: i64, d: i64) -> i64
     requires { ⌜ pos 1 ≤ℤ d ⌝ }
     ensures { λ u. ⌜ u ≡ cond (ltZ (pos 2 *ℤ r) d) (pos 0) (pos 1) ⌝ }
@@ -14,20 +14,12 @@ fn goes_up(r: i64, d: i64) -> i64
     if r < d - d / 2 { 0 } else { 1 }
 }
 
-// 1 where the remainder is less than minus half of the divisor, otherwise 0
-fn goes_down(r: i64, d: i64) -> i64
-    requires { ⌜ pos 1 ≤ℤ d ⌝ }
-    ensures { λ u. ⌜ u ≡ cond (ltZ (pos 2 *ℤ r) (negℤ d)) (pos 1) (pos 0) ⌝ }
-{
-    if r < -(d / 2) { 1 } else { 0 }
-}
-
-// L4: n / d, rounded
+// L4: n / d, rounded. The remainder has the sign of n, so that at most one of the two tests gives 1: away from zero.
 pub fn rounded(n: i64, d: i64) -> i64
     requires { ⌜ pos 1 ≤ℤ d ⌝ }
     ensures { λ z. ⌜ z ≡ rounded n (natAbs d) ⌝ }
 {
     let q = n / d;
     let r = n % d;
-    q + (goes_up(r, d) - goes_down(r, d))
+    q + (goes_up(r, d) - goes_up(-r, d))
 }

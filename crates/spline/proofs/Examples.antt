@@ -11,7 +11,7 @@ use Rattle.integers.proofs.Ring.{_⊖_, #_}
 use Rattle.integers.proofs.Linear.{_≐_, _⊢_≗_with_, lin}
 use Rattle.ends.specs.declared.EndKind.{EndKind}
 use Rattle.ends.specs.declared.EndKind.the-variants.{Free, Held, Closed}
-use Rattle.rounding.specs.Rounded.{floor, rounded}
+use Rattle.rounding.specs.Rounded.{rounded}
 use Rattle.systems.specs.Rows.{rowSum, Solves}
 use Rattle.systems.specs.Passes.{at, target, renewed, turn, sweep, pass, passes}
 use Rattle.systems.proofs.Below.{Below, below}
@@ -120,7 +120,7 @@ abbrev pub curveA : Curve
 curveA = curve 2 (cubic (pos 0) (pos 12) (pos 0) (negsuc 0) ∷ cubic (pos 16) (pos 0) (negsuc 5) (pos 1) ∷ [])
 
 pub workedA : Worked A curveA 1 (pos 0 ∷ negsuc 0 ∷ pos 0 ∷ []) (pos 0 ∷ negsuc 65_535 ∷ pos 0 ∷ [])
-unfolding valueAt firstAt secondAt legs next prev stepAfter stepBefore innerRow freeRow along rowOf rowsBy floor rounded target renewed turn sweep pass passes
+unfolding valueAt firstAt secondAt legs next prev stepAfter stepBefore innerRow freeRow along rowOf rowsBy rounded target renewed turn sweep pass passes
 workedA = worked-by (omega arith) ((tt, (refl, refl, λ a. absurd (omega arith))), (refl, refl, λ a. (refl, refl))) (refl, refl) (((tt, refl), refl), refl) refl
 
 -- at tick 1: eleven halves, and the place 6
@@ -129,7 +129,7 @@ unfolding valueAt
 valueA = refl
 
 positionA : position 2 1 (pos 0) (pos 8) (pos 0) (negsuc 65_535) ≡ pos 6
-unfolding numerator position floor rounded
+unfolding numerator position rounded
 positionA = refl
 
 -- ---- W4: free, legs 1, 2 through 0, 0, 6
@@ -141,7 +141,7 @@ abbrev unevenCurve : Curve
 unevenCurve = curve 4 (cubic (pos 0) (negsuc 1) (pos 0) (pos 2) ∷ cubic (pos 0) (pos 4) (pos 6) (negsuc 0) ∷ [])
 
 unevenWorked : Worked uneven unevenCurve 2 (pos 0 ∷ pos 1 ∷ pos 0 ∷ []) (pos 0 ∷ pos 32_768 ∷ pos 0 ∷ [])
-unfolding valueAt firstAt secondAt legs next prev stepAfter stepBefore innerRow freeRow along rowOf rowsBy floor rounded target renewed turn sweep pass passes
+unfolding valueAt firstAt secondAt legs next prev stepAfter stepBefore innerRow freeRow along rowOf rowsBy rounded target renewed turn sweep pass passes
 unevenWorked = worked-by (omega arith) ((tt, (refl, refl, λ a. absurd (omega arith))), (refl, refl, λ a. (refl, refl))) (refl, refl) (((tt, refl), refl), refl) refl
 
 -- ---- W5
@@ -150,7 +150,7 @@ abbrev pub heldCurve : Curve
 heldCurve = curve 2 (cubic (pos 0) (pos 0) (pos 6) (negsuc 0) ∷ [])
 
 heldWorked : Worked heldLeg heldCurve 1 (pos 1 ∷ negsuc 0 ∷ []) (pos 65_536 ∷ negsuc 65_535 ∷ [])
-unfolding valueAt firstAt secondAt legs next prev stepAfter stepBefore innerRow heldStartRow heldEndRow along rowOf rowsBy floor rounded target renewed turn sweep pass passes
+unfolding valueAt firstAt secondAt legs next prev stepAfter stepBefore innerRow heldStartRow heldEndRow along rowOf rowsBy rounded target renewed turn sweep pass passes
 heldWorked = worked-by (omega arith) (tt, (refl, refl, λ a. absurd (omega arith))) (refl, refl) ((tt, refl), refl) refl
 
 -- ---- W7: closed, legs 2, 2, 2, 2 through 0, 6, 0, -6
@@ -168,12 +168,12 @@ closedCurve = curve 8
     ∷ cubic (pos 0) (negsuc 35) (pos 0) (pos 3) ∷ cubic (negsuc 47) (pos 0) (pos 18) (negsuc 2) ∷ [])
 
 closedWorked : Worked closedFour closedCurve 4 (pos 0 ∷ negsuc 2 ∷ pos 0 ∷ pos 3 ∷ []) (pos 0 ∷ negsuc 49_151 ∷ pos 0 ∷ pos 49_152 ∷ [])
-unfolding valueAt firstAt secondAt legs next prev stepAfter stepBefore innerRow rowOf rowsBy floor rounded target renewed turn sweep pass passes
+unfolding valueAt firstAt secondAt legs next prev stepAfter stepBefore innerRow rowOf rowsBy rounded target renewed turn sweep pass passes
 closedWorked = worked-by (omega arith)
     ((((tt, (refl, refl, λ a. (refl, refl))), (refl, refl, λ a. (refl, refl))), (refl, refl, λ a. (refl, refl))), (refl, refl, λ a. (refl, refl))) tt
     ((((tt, refl), refl), refl), refl) refl
 
--- ---- free, legs 256, 256 through 0, 1, 0: the middle bend number would be -1/2, and is rounded to 0
+-- ---- free, legs 256, 256 through 0, 1, 0: the middle bend number would be -1/2, and is rounded to -1
 abbrev pub flat : Course
 flat = course Free (256 ∷ 256 ∷ []) (pos 0 ∷ pos 1 ∷ pos 0 ∷ []) 3
 
@@ -181,6 +181,6 @@ flat = course Free (256 ∷ 256 ∷ []) (pos 0 ∷ pos 1 ∷ pos 0 ∷ []) 3
 abbrev pub flatCurve : Curve
 flatCurve = curve 33_554_432 (cubic (pos 0) (pos 196_608) (pos 0) (negsuc 0) ∷ cubic (pos 33_554_432) (pos 0) (negsuc 767) (pos 1) ∷ [])
 
-flatWorked : Worked flat flatCurve 131_072 (pos 0 ∷ negsuc 0 ∷ pos 0 ∷ []) (pos 0 ∷ pos 0 ∷ pos 0 ∷ [])
-unfolding valueAt firstAt secondAt legs next prev stepAfter stepBefore innerRow freeRow along rowOf rowsBy floor rounded target renewed turn sweep pass passes
+flatWorked : Worked flat flatCurve 131_072 (pos 0 ∷ negsuc 0 ∷ pos 0 ∷ []) (pos 0 ∷ negsuc 0 ∷ pos 0 ∷ [])
+unfolding valueAt firstAt secondAt legs next prev stepAfter stepBefore innerRow freeRow along rowOf rowsBy rounded target renewed turn sweep pass passes
 flatWorked = worked-by (omega arith) ((tt, (refl, refl, λ a. absurd (omega arith))), (refl, refl, λ a. (refl, refl))) (refl, refl) (((tt, refl), refl), refl) refl

@@ -5,7 +5,7 @@ use Prim.Native.Nat.{_≤_}
 use lib.Dec.{lit≤}
 use lib.IntN.{pos, natAbs}
 use Rattle.integers.proofs.Tried.{Tried, tried}
-use Rattle.rounding.specs.Rounded.{floor, rounded}
+use Rattle.rounding.specs.Rounded.{rounded}
 use Rattle.systems.specs.Passes.{at, target, renewed, turn, sweep, pass, passes}
 use Rattle.systems.proofs.Below.{below}
 use Rattle.spline.specs.Spline.{InBounds, legs, next, prev, stepAfter, stepBefore, valueAt, secondAt, bend6, innerRow, freeRow, along, rowOf, rowsBy, bends}
@@ -27,7 +27,7 @@ row-tried : Tried
 unfolding legs next prev stepAfter stepBefore secondAt bend6 innerRow freeRow along rowOf rowsBy
 row-tried = tried (λ (follow : RowsFollow). follow A boundsA curveA (workedA .exact) 1 (lit≤ tt)) refl
 
--- at tick 127 of the flat course the place is 0, and the exact spline at 0.68: near, but not within half a millimetre
-near-tried : Near 33_554_432 (valueAt (flatCurve .cubic 0) 127) (position 256 127 (pos 0) (pos 1) (at (bends flat) 0) (at (bends flat) 1))
-unfolding Near valueAt next prev stepAfter stepBefore innerRow freeRow along rowOf rowsBy numerator position floor rounded target renewed turn sweep pass passes
+-- at tick 67 of the flat course the place is 1, and the exact spline at 0.38: near, but not within half a millimetre
+near-tried : Near 33_554_432 (valueAt (flatCurve .cubic 0) 67) (position 256 67 (pos 0) (pos 1) (at (bends flat) 0) (at (bends flat) 1))
+unfolding Near valueAt next prev stepAfter stepBefore innerRow freeRow along rowOf rowsBy numerator position rounded target renewed turn sweep pass passes
 near-tried = lit≤ tt

@@ -1,14 +1,14 @@
 -- What the claim would say of a worked sheet, W5's, computed before it is proved: a false claim fails here, by its numbers. Nothing rests on this file; Own
 -- names it so that it is checked first.
 use mathlib.Core.Path.{refl, ap}
-use mathlib.Core.List.{List, [], _∷_, _++_}
+use mathlib.Core.List.{List, _∷_, _++_}
 use Prim.Native.Nat.{ℕ, _≤_}
 use native.Mathlib.Omega.{arith}
 use lib.Dec.{lit≤}
 use lib.IntN.{ℤ, pos}
 use lib.ListN.{replicate}
 use Rattle.integers.proofs.Tried.{Tried, tried}
-use Rattle.rounding.specs.Rounded.{floor, rounded}
+use Rattle.rounding.specs.Rounded.{rounded}
 use Rattle.ends.specs.declared.EndKind.the-variants.{Held}
 use Rattle.sheet.specs.Answers.{Told}
 use Rattle.sheet.specs.Bytes.{be16, be32, signed32, anyBelow, sumBelow}
@@ -46,12 +46,12 @@ exact = exact-by (course held 0) heldCurve (lit≤ tt) (tt, (refl, refl, λ a. a
 
 -- at tick 1 the place is 3 and the spline at 5/2; at tick 2 it is at 8
 near-tried : Tried
-unfolding floor rounded target renewed turn sweep pass passes be16 be32 signed32 anyBelow sumBelow readBy next prev stepAfter stepBefore innerRow heldStartRow heldEndRow along rowOf rowsBy numerator position course allBends layOut laidOut walk spotAt placeOn Near valueAt
+unfolding rounded target renewed turn sweep pass passes be16 be32 signed32 anyBelow sumBelow readBy next prev stepAfter stepBefore innerRow heldStartRow heldEndRow along rowOf rowsBy numerator position course allBends layOut laidOut walk spotAt placeOn Near valueAt
 near-tried = tried (λ (claim : Claim). claim held accepted .by-tick list own 1 (lit≤ tt) .near 0 (lit≤ tt) heldCurve exact) (lit≤ tt)
 
 -- tick 5 is past the end: it is refused as 10, so the claim must not speak of it
 past-tried : Tried
-unfolding floor rounded target renewed turn sweep pass passes be16 be32 signed32 anyBelow sumBelow readBy next prev stepAfter stepBefore innerRow heldStartRow heldEndRow along rowOf rowsBy course allBends layOut laidOut placeAtTick
+unfolding rounded target renewed turn sweep pass passes be16 be32 signed32 anyBelow sumBelow readBy next prev stepAfter stepBefore innerRow heldStartRow heldEndRow along rowOf rowsBy course allBends layOut laidOut placeAtTick
 past-tried = tried {Fact = ¬ Answers (kind held) (ticks held) 5}
     (λ (claim : Claim) answered. omega (arith, ap (λ (t : Told). t .number) (claim held accepted .by-tick list own 5 answered .place))) (λ answered. omega arith)
 

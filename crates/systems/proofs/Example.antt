@@ -12,7 +12,7 @@ use lib.IntN.{ℤ, pos, negsuc, natAbs, _*ℤ_}
 use Rattle.integers.proofs.Ring.{_⊕_, _⊗_, ⊝_, #_}
 use Rattle.integers.proofs.Linear.{_≐_, _⊢_≗_with_, lin}
 use Rattle.integers.proofs.Tried.{Tried, tried}
-use Rattle.rounding.specs.Rounded.{floor, rounded}
+use Rattle.rounding.specs.Rounded.{rounded}
 use Rattle.systems.specs.Rows.{Row, rowSum, Rows, Dominant, Solves, Solution}
 use Rattle.systems.specs.Passes.{target, renewed, turn, sweep, pass, passes}
 use Rattle.systems.specs.Theorems.{Solvable, Unique, Passing, FortyPassesNear, PassesBounded, EarlyEnd}
@@ -69,12 +69,12 @@ solves = below 4 (λ i. rowSum (row i) (exact (rows .prev i)) (exact i) (exact (
 
 -- 65,536 times the exact numbers are 161,655.47 and -187,869.87
 computed : passes rows 65536 40 zeros ≡ pos 0 ∷ pos 161656 ∷ negsuc 187869 ∷ pos 0 ∷ []
-unfolding floor rounded target renewed turn sweep pass passes
+unfolding rounded target renewed turn sweep pass passes
 computed = refl
 
 -- the first of them is 8/15 away: within nine eighths, not within four
 near-tried : Tried
-unfolding floor rounded target renewed turn sweep pass passes
+unfolding rounded target renewed turn sweep pass passes
 near-tried = tried (λ (near : FortyPassesNear). near 2 rows 65536 327680 zeros passing (lit≤ tt) 15 exact solves 1 (lit≤ tt)) (lit≤ tt)
 
 -- the solution over 30 has twice the numbers: 30 × 37 = 15 × 74
@@ -111,7 +111,7 @@ half-passing = record {
 }
 
 bound-tried : Tried
-unfolding floor rounded target renewed turn sweep pass passes
+unfolding rounded target renewed turn sweep pass passes
 bound-tried = tried (λ (bounded : PassesBounded). bounded 2 half 1 1 (pos 0 ∷ []) half-passing 1 0 0 (lit≤ tt) (lit≤ tt)) (lit≤ tt)
 
 -- ---- x0 + x1 = 1 and x1 + x0 = 0: dominant by 1, and without solution. So 1 is not enough.

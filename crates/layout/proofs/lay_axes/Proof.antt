@@ -7,7 +7,7 @@ use borrow.Author.Needs.{needs}
 use borrow.Rule.Slice.PartMut.{mid-len}
 use lib.IntN.{pos, negsuc}
 use lib.ListN.{drop, replicate}
-use Rattle.rounding.specs.Rounded.{floor, rounded}
+use Rattle.rounding.specs.Rounded.{rounded}
 use Rattle.systems.specs.Passes.{target, renewed, turn, sweep, pass, passes}
 use Rattle.sheet.specs.Bytes.{be16, be32, signed32}
 use Rattle.spline.specs.Spline.{next, prev, stepAfter, stepBefore, heldStartRow, heldEndRow, along, rowOf, rowsBy}
@@ -20,7 +20,7 @@ use Rattle.layout.proofs.lay_axes.Tie as tie
 -- tried at W5 on the east axis, on a sheet that is cut after its last byte above 0: east stands from entry 2
 east-tried : allBends (replicate 4 0 ++ 1 ∷ 1 ∷ 0 ∷ 2 ∷ 0 ∷ 4 ∷ replicate 19 0 ++ 16 ∷ [])
     ≡ pos 0 ∷ pos 0 ∷ pos 65536 ∷ negsuc 65535 ∷ pos 0 ∷ pos 0 ∷ []
-unfolding floor rounded target renewed turn sweep pass passes be16 be32 signed32 next prev stepAfter stepBefore heldStartRow heldEndRow along rowOf rowsBy course allBends
+unfolding rounded target renewed turn sweep pass passes be16 be32 signed32 next prev stepAfter stepBefore heldStartRow heldEndRow along rowOf rowsBy course allBends
 east-tried = refl
 
 mul-up : tie.Need-mul-up

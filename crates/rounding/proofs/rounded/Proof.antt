@@ -1,27 +1,33 @@
 -- `rounding::rounded` meets its contract: the two tests add up to what the remainder rounds to, that and the quotient to what n / d rounds to.
 use mathlib.Core.Path.{_≡_, refl, _∙_}
-use mathlib.Core.Bool.{cond}
 use borrow.Author.Needs.{needs}
-use lib.IntN.{ℤ, pos, negsuc, negℤ, natAbs, _+ℤ_, _-ℤ_, _*ℤ_}
-use lib.Signed.{ltZ, quotZ, remZ, mag-rem}
+use lib.IntN.{ℤ, pos, negsuc, natAbs, _+ℤ_, _-ℤ_}
+use lib.Signed.{quotZ, remZ, mag-rem}
 use mir.Syntax.{w64}
 use mir.Val.{SFits}
 use mir.ValLaws.{sfits-le}
 use Rattle.integers.proofs.Machine.{back, fits-back}
 use Rattle.rounding.specs.Rounded.{rounded}
-use Rattle.integers.proofs.Made.{read}
-use Rattle.rounding.proofs.Remainder.{divisor-bits, fits-quot, step-rounds, sum-rounds, rounded-fits}
+use Rattle.integers.proofs.Made.{read, passed}
+use Rattle.rounding.proofs.Remainder.{up, divisor-bits, fits-quot, fits-minus, step-rounds, sum-rounds, rounded-fits}
 use Rattle.rounding.proofs.rounded.Statement.{statement}
 use Rattle.rounding.proofs.rounded.Tie as tie
 
--- tried at -11 of 4, -2.75: the quotient is -2, the remainder -3, for which the tests give 0 and 1
-tried : tie.After-goes-down
-tried = record {
+-- tried at -5 of 2, -2.5, a half: the quotient is -2, the remainder -1, for which the tests give 0 and 1
+half-tried : tie.After-goes-up2
+half-tried = record {
   before = record {
-    before = record { args = record { n = negsuc 10; d = pos 4 }; good = search needs; fits = search needs; pre = search needs };
+    before = record { args = record { n = negsuc 4; d = pos 2 }; good = search needs; fits = search needs; pre = search needs };
     goes-up = record { lifetimes = tt; result = pos 0; last = search needs; ok = search needs; kept = search needs; ensures = refl };
   };
-  goes-down = record { lifetimes = tt; result = pos 1; last = search needs; ok = search needs; kept = search needs; ensures = refl };
+  goes-up2 = record { lifetimes = tt; result = pos 1; last = search needs; ok = search needs; kept = search needs; ensures = refl };
+}
+
+-- and at 3 of 4: the remainder 3 has the test 1
+above-tried : tie.After-goes-up
+above-tried = record {
+  before = record { args = record { n = pos 3; d = pos 4 }; good = search needs; fits = search needs; pre = search needs };
+  goes-up = record { lifetimes = tt; result = pos 1; last = search needs; ok = search needs; kept = search needs; ensures = refl };
 }
 
 module _ (s : tie.Start) where
@@ -49,6 +55,12 @@ module _ (s : tie.Start) where
   er : read (remZ (read n) (read d)) ≡ remZ n d
   er = back (λ i. remZ (en i) (ed i)) rem-fits
 
+  minus-fits : SFits w64 (pos 0 -ℤ remZ n d)
+  minus-fits = fits-minus n d (s .pre) (s .fits .d)
+
+  minus-made : pos 0 -ℤ read (remZ (read n) (read d)) ≡ pos 0 -ℤ remZ n d
+  minus-made = λ i. pos 0 -ℤ er i
+
 div-q : tie.Need-div-q
 div-q c = (divisor-bits (n c) (d c) (c .pre), fits-back (quot-made c) (quot-fits c))
 
@@ -58,24 +70,27 @@ rem-r = div-q
 goes-up-requires : tie.Need-goes-up-requires
 goes-up-requires c κs = search needs
 
-goes-down-requires : tie.Need-goes-down-requires
-goes-down-requires c κs = search needs
+sub-goes-up : tie.Need-sub-goes-up
+sub-goes-up c = fits-back (minus-made (c .before)) (minus-fits (c .before))
 
-module _ (c : tie.After-goes-down) where
+goes-up-requires-2 : tie.Need-goes-up-requires-2
+goes-up-requires-2 c κs = search needs
+
+module _ (c : tie.After-goes-up2) where
   abbrev s : tie.Start
   s = c .before .before
 
-  up : read (c .before .goes-up .result) ≡ cond (ltZ (pos 2 *ℤ remZ (n s) (d s)) (d s)) (pos 0) (pos 1)
-  up = back refl (record { sfits = c .before .goes-up .ok }) ∙ c .before .goes-up .ensures ∙ (λ i. cond (ltZ (pos 2 *ℤ er s i) (ed s i)) (pos 0) (pos 1))
+  first : read (c .before .goes-up .result) ≡ up (remZ (n s) (d s)) (d s)
+  first = passed (c .before .goes-up .ensures) (c .before .goes-up .ok) ∙ (λ i. up (er s i) (ed s i))
 
-  down : read (c .goes-down .result) ≡ cond (ltZ (pos 2 *ℤ remZ (n s) (d s)) (negℤ (d s))) (pos 1) (pos 0)
-  down = back refl (record { sfits = c .goes-down .ok }) ∙ c .goes-down .ensures ∙ (λ i. cond (ltZ (pos 2 *ℤ er s i) (negℤ (ed s i))) (pos 1) (pos 0))
+  second : read (c .goes-up2 .result) ≡ up (pos 0 -ℤ remZ (n s) (d s)) (d s)
+  second = passed (c .goes-up2 .ensures) (c .goes-up2 .ok) ∙ (λ i. up (back (minus-made s) (minus-fits s) i) (ed s i))
 
   abbrev step-made : ℤ
-  step-made = read (c .before .goes-up .result) -ℤ read (c .goes-down .result)
+  step-made = read (c .before .goes-up .result) -ℤ read (c .goes-up2 .result)
 
   step-is : step-made ≡ rounded (remZ (n s) (d s)) (natAbs (d s))
-  step-is = (λ i. up i -ℤ down i) ∙ step-rounds (n s) (d s) (s .pre)
+  step-is = (λ i. first i -ℤ second i) ∙ step-rounds (n s) (d s) (s .pre)
 
   step-fits : SFits w64 (rounded (remZ (n s) (d s)) (natAbs (d s)))
   step-fits = rounded-fits (remZ (n s) (d s)) (d s) (s .pre) (rem-fits s)
@@ -96,4 +111,4 @@ returns : tie.Need-returns
 returns c = back (sum-is c) (sum-fits c)
 
 pub rounded-spec : {M : Type 1} → statement M
-rounded-spec = tie.close (tie.spec div-q rem-r goes-up-requires goes-down-requires sub-result add-result returns)
+rounded-spec = tie.close (tie.spec div-q rem-r goes-up-requires sub-goes-up goes-up-requires-2 sub-result add-result returns)

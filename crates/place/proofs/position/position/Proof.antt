@@ -5,7 +5,7 @@ use native.Mathlib.Omega.{arith}
 use borrow.Author.Needs.{needs}
 use lib.IntN.{pos, negsuc, natAbs}
 use Rattle.integers.proofs.Order.{pos-le}
-use Rattle.rounding.specs.Rounded.{floor, rounded}
+use Rattle.rounding.specs.Rounded.{rounded}
 use Rattle.spline.specs.Position.{position}
 use Rattle.integers.proofs.Made.{fits, read-back, passed, times, minus}
 use Rattle.place.proofs.Numerator.{scale, past, left, sum, rest, whole, start, end, start-bend, end-bend, ends, bends, bend, numerator-is}
@@ -14,7 +14,7 @@ use Rattle.place.proofs.position.position.Tie as tie
 
 -- tried at W5: 3 at tick 1
 held-tried : tie.After-rounded
-unfolding floor rounded
+unfolding rounded
 held-tried = record {
   before = record {
     args = record { h = 4; u = 1; v = pos 0; w = pos 16; z = pos 65536; y = negsuc 65535 };
