@@ -120,7 +120,7 @@ module _ (s : List ℕ) (accepted : Accepted s) where
   open-tick o t h = (rw (o, le-ltb (ticks s) t h), tick-stands s accepted t .0 o h .fits)
 
   -- the course's ticks (C6), by the kind of ends
-  answerable : (k : EndKind) → kind s ≡ k → (t : ℕ) → Answers k (ticks s) t → (past s t ≡ false) × (adrift s (spotAt s t) ≡ false)
+  pub answerable : (k : EndKind) → kind s ≡ k → (t : ℕ) → Answers k (ticks s) t → (past s t ≡ false) × (adrift s (spotAt s t) ≡ false)
   answerable Free e t h = open-tick (ap isOpen e) t (omega arith)
   answerable Held e t h = open-tick (ap isOpen e) t (omega arith)
   answerable Closed e t h = (ap (λ (k : EndKind). isOpen k && ltb (ticks s) t) e, tick-stands s accepted t .1 e .fits)
