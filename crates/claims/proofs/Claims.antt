@@ -10,6 +10,7 @@ use Rattle.joined.proofs.Answers.{joined-where-few, crowded-where-more}
 use Rattle.joined.proofs.Worked.{ticks-tried, most-tried}
 use Rattle.joined.proofs.Fields.{joined-accepted}
 use Rattle.joined.proofs.Flown.{joined-met, joined-near}
+use Rattle.rounding.proofs.Laws.{rounded-nearest, rounded-mirrored}
 use Rattle.systems.proofs.Size.{unique, solution-bounded}
 use Rattle.systems.proofs.Existence.{solvable}
 use Rattle.systems.proofs.Distance.{passes-near, forty-passes-near, passes-bounded}
@@ -32,6 +33,10 @@ use Rattle.station.proofs.Own.{own-laid}
 use Rattle.courses.proofs.Longest.{longest}
 use Rattle.courses.proofs.Starred.{starred-right}
 use Rattle.courses.proofs.Theorems.{chord-not-near, free-pair-unbent}
+use Rattle.mirror.proofs.Worked.{mirror-tried}
+use Rattle.mirror.proofs.Passes.{passes-mirrored}
+use Rattle.mirror.proofs.Courses.{bends-mirrored, position-mirrored}
+use Rattle.mirror.proofs.Sheets.{sheet-mirrored}
 use Rattle.lines.proofs.Worked.{line-one, line-minus}
 use Rattle.lines.proofs.Room.{line-short}
 use Rattle.output.proofs.Answered.{accepted-output, every-tick}
@@ -59,7 +64,13 @@ claims = record {
     tick-is-runner = tick-is-runner;
     joined-where-few = joined-where-few;
     row-gap = row-gap;
+    rounded-nearest = rounded-nearest;
+    rounded-mirrored = rounded-mirrored;
     laid-out-near = laid-out-near;
+    passes-mirrored = passes-mirrored;
+    bends-mirrored = bends-mirrored;
+    position-mirrored = position-mirrored;
+    sheet-mirrored = sheet-mirrored;
     tick-stands = tick-stands;
     leg-ends-met = leg-ends-met;
     waypoint-met-at-tick = waypoint-met-at-tick;
@@ -93,6 +104,7 @@ claims = record {
     joins-tried = joins-tried;
     ticks-tried = ticks-tried;
     most-tried = most-tried;
+    mirror-tried = mirror-tried;
     chord-not-near = chord-not-near;
   };
   demand3 = claim;

@@ -8,6 +8,7 @@ use Rattle.written.specs.Worked.{ReachTried}
 use Rattle.join.specs.Worked.{JoinsTried}
 use Rattle.joined.specs.Theorems.{JoinedWhereFew, CrowdedWhereMore, JoinedAccepted, JoinedMet, JoinedNear}
 use Rattle.joined.specs.Worked.{TicksTried, MostTried}
+use Rattle.rounding.specs.Theorems.{RoundedNearest, RoundedMirrored}
 use Rattle.systems.specs.Theorems.{Solvable, Unique, SolutionBounded, PassesNear, FortyPassesNear, PassesBounded, EarlyEnd}
 use Rattle.spline.specs.Theorems.{RowGap, RowsFollow, SplineExists, OneCurve, BendsNear, FreePairZeros, BendsBounded, PositionSharp, PositionNear}
 use Rattle.layout.specs.Theorems.{CourseInBounds, LaidOutNear}
@@ -18,6 +19,8 @@ use Rattle.place.specs.Theorems.{LegEndsMet, WaypointMetAtTick, WaypointMetByRu
 use Rattle.station.specs.Claim.{Claim, OwnLaid}
 use Rattle.courses.specs.Starred.{StarredRight}
 use Rattle.courses.specs.Theorems.{ChordNotNear, FreePairUnbent, Longest}
+use Rattle.mirror.specs.Theorems.{PassesMirrored, BendsMirrored, PositionMirrored, SheetMirrored}
+use Rattle.mirror.specs.Worked.{MirrorTried}
 use Rattle.lines.specs.Theorems.{LineOne, LineMinus, LineShort}
 use Rattle.output.specs.Theorems.{EveryTick, AcceptedOutput, CourseA, LegRefused}
 use Rattle.claims.specs.Refused.{RefusalPassedOn, RefusedKeepsList, RefusedKeepsRecord, RefusedKeepsSlice}
@@ -54,8 +57,16 @@ pub record Demand2 : Type 0 where
   pub joined-where-few : JoinedWhereFew
   -- R6
   pub row-gap : RowGap
+  -- L4: nearest, a half away from zero; and of the negated numerator
+  pub rounded-nearest : RoundedNearest
+  pub rounded-mirrored : RoundedMirrored
   -- L6
   pub laid-out-near : LaidOutNear
+  -- L7, P6: mirrored sheets, and the steps to them
+  pub passes-mirrored : PassesMirrored
+  pub bends-mirrored : BendsMirrored
+  pub position-mirrored : PositionMirrored
+  pub sheet-mirrored : SheetMirrored
   -- P3, P4
   pub tick-stands : TickStands
   -- P5
@@ -111,6 +122,8 @@ pub record Demand2 : Type 0 where
   pub joins-tried : JoinsTried
   pub ticks-tried : TicksTried
   pub most-tried : MostTried
+  -- W16
+  pub mirror-tried : MirrorTried
   -- K4, K8: zeros in place of bend numbers fail on tenfold A
   pub chord-not-near : ChordNotNear
 
