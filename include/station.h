@@ -21,8 +21,8 @@
  * [measured]
  *   format:           elf64-x86-64, for Linux (System V calls)
  *   outside symbols:  memset
- *   code:             6690 bytes with constants, data 0, zeroed data 0
- *   deepest stack:    256 bytes (read 136, lay_out 256, place_at_tick 248, place_of_runner 248, runner_at_tick 152, step 152, back 152, write 56, join 216)
+ *   code:             6680 bytes with constants, data 0, zeroed data 0
+ *   deepest stack:    256 bytes (read 136, lay_out 256, place_at_tick 240, place_of_runner 240, runner_at_tick 152, step 152, back 152, write 56, join 216)
  * [/measured]
  */
 #ifndef STATION_H
@@ -32,11 +32,13 @@
 #include <stdint.h>
 
 /* The version of this header and its library. MAJOR moves where a correct caller may have to change, MINOR where functions or numbers are
- * added. MINOR moves as well where a refusal gets another limit: a correct caller handles its number already. */
+ * added. MINOR moves as well where a refusal gets another limit: a correct caller handles its number already; and where the same calls come
+ * to other figures within their clauses, as in 1.5 by the rounding of halves (L4): bend numbers that an earlier version laid out are not
+ * this one's own (C1), so lay out again. */
 #define STATION_VERSION_MAJOR 1
-#define STATION_VERSION_MINOR 4
+#define STATION_VERSION_MINOR 5
 #define STATION_VERSION_PATCH 0
-#define STATION_VERSION "1.4.0"
+#define STATION_VERSION "1.5.0"
 
 /* Asks gcc and clang to warn where an answer is dropped or a null pointer is handed over; nothing to other compilers. */
 #if defined(__GNUC__)
@@ -81,7 +83,9 @@ enum { STATION_LONGEST_SHEET = 7198, STATION_LONGEST_LIST = 1536 };
 /* Reads a sheet. Tests 1-8 (A2). Results: kind of ends, N, P. */
 STATION_CHECKED uint64_t station_read(const uint8_t *sheet, size_t sheet_length, uint64_t *out, size_t out_length);
 
-/* Lays out the sheet's bend numbers in a list: N for north, then N for east, then N for up (L5). Tests 1-9 (A3). */
+/* Lays out the sheet's bend numbers in a list: N for north, then N for east, then N for up (L5). Tests 1-9 (A3). Bend numbers, and places
+ * too, are rounded to the nearest, a half away from zero (L4), so that a course that is mirrored on an axis, its slopes as well where it is
+ * held, has mirrored bend numbers and places there (L7, P6). */
 STATION_CHECKED uint64_t station_lay_out(const uint8_t *sheet, size_t sheet_length, int64_t *list, size_t list_length);
 
 /* The place at a tick, by a list that was laid out for this sheet; a closed course has a place at any tick (P4). Tests 1-10 and 12 (A4).

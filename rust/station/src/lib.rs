@@ -157,6 +157,25 @@ pub fn read(sheet: &[u8]) -> Result<Course, Refusal> {
 /// assert_eq!(station::lay_out(&COURSE_A, &mut list[..8]), Err(station::Refusal::Shelf));
 /// # Ok::<(), station::Refusal>(())
 /// ```
+///
+/// Bend numbers, and places too, are rounded to the nearest, a half away from zero (L4), so that a course that is mirrored on an axis, its
+/// slopes as well where it is held, has mirrored bend numbers and places there (L7, P6).
+///
+/// ```
+/// use station::EndKind;
+///
+/// // a leg of 4 ticks from north 0 to 16, held at slopes of 8; then its mirror image
+/// for sign in [1, -1] {
+///     let (mut sheet, mut list) = ([0; 58], [0; 6]);
+///     station::write(EndKind::Held, &[4], &[0, 0, 0, sign * 16, 0, 0], &[sign * 8, 0, 0, sign * 8, 0, 0], &mut sheet)?;
+///     station::lay_out(&sheet, &mut list)?;
+///     assert_eq!(list, [sign * -65_536, sign * 65_536, 0, 0, 0, 0]);
+///     // 5.5 and 10.5, or -5.5 and -10.5
+///     assert_eq!(station::place_at_tick(&sheet, &list, 1)?.north, sign * 6);
+///     assert_eq!(station::place_at_tick(&sheet, &list, 3)?.north, sign * 11);
+/// }
+/// # Ok::<(), station::Refusal>(())
+/// ```
 #[inline]
 pub fn lay_out(sheet: &[u8], list: &mut [i64]) -> Result<(), Refusal> {
     done(raw::lay_out(sheet, list))
