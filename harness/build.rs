@@ -45,6 +45,7 @@ fn main() {
 
     compile(&here, &out, "base.c", "base", &[]);
     compile(&here, &out, "careful.c", "careful", &["-O3"]);
+    compile(&here, &out, "careful.c", "half_first", &["-O3", "-DHALF_FIRST"]);
     compile(&here, &out, "pcuspl.c", "pcuspl", &[]);
     // a null pointer that the header hands to a call is a trap, which evidence reports (src/bin/evidence/hit.rs)
     compile(&here, &out, "header.c", "header", &["-fsanitize=nonnull-attribute", "-fsanitize-undefined-trap-on-error"]);

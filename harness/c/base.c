@@ -83,17 +83,15 @@ static uint64_t read_course(const uint8_t *s, size_t length, struct course *c)
     return STATION_DONE;
 }
 
-/* L4: n / d for d > 0. */
+/* L4: n / d for d > 0. Division cuts toward zero, and the remainder has n's sign. */
 static int64_t rounded(int64_t n, int64_t d)
 {
     int64_t quotient = n / d;
     int64_t remainder = n % d;
-    if (remainder < 0) {
-        quotient -= 1;
-        remainder += d;
-    }
-    if (remainder >= d - remainder)
+    if (2 * remainder >= d)
         quotient += 1;
+    if (2 * remainder <= -d)
+        quotient -= 1;
     return quotient;
 }
 

@@ -1,8 +1,13 @@
 /* The calls in C written with care for speed, the algorithm unchanged: byte loads that merge into one, stores of a whole number with its
  * bytes swapped, ranges asked by one unsigned comparison or by a few bits of many numbers and gathered without a branch, a row's factors
  * worked out once for the three axes, the number just set carried along as the next row's left neighbour, rounding without a branch. An
- * axis at a time, each row with its one division; laying out ends early after a pass that changed nothing. Compiled with gcc -O3. */
+ * axis at a time, each row with its one division; laying out ends early after a pass that changed nothing. Compiled with gcc -O3, twice:
+ * with HALF_FIRST it rounds in another way, and its calls have names of their own. */
+#ifdef HALF_FIRST
+#define NAME(call) half_first_##call
+#else
 #define NAME(call) careful_##call
+#endif
 #include "calls.h"
 
 #include <string.h>
@@ -66,12 +71,23 @@ static uint64_t read_course(const uint8_t *s, size_t length, struct course *c)
     return STATION_DONE;
 }
 
-/* L4: n / d for an even d > 0: half of d added first, then rounded down. */
+/* L4: n / d for an even d > 0. */
+#ifdef HALF_FIRST
+/* Half of d is added with n's sign, by the sign's bits, then the division cuts toward zero. */
 static inline int64_t rounded(int64_t n, int64_t d)
 {
-    int64_t t = n + d / 2;
-    return t / d + (t % d >> 63);
+    int64_t sign = n >> 63, half = d >> 1;
+    return (n + ((half ^ sign) - sign)) / d;
 }
+#else
+/* The division cuts toward zero, then the remainder, which has n's sign, decides (F5): a sign's bit is set where it is half of d or more, or
+ * minus that or less. */
+static inline int64_t rounded(int64_t n, int64_t d)
+{
+    int64_t quotient = n / d, remainder = n % d, below_half = (d >> 1) - 1;
+    return quotient - ((below_half - remainder) >> 63) + ((below_half + remainder) >> 63);
+}
+#endif
 
 /* A row's factors, and 65,536 times its right side. */
 struct row {

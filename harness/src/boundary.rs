@@ -74,6 +74,8 @@ c_calls! {
         base_runner_at_tick base_step base_back base_write base_join;
     careful_read careful_lay_out careful_place_at_tick careful_place_of_runner
         careful_runner_at_tick careful_step careful_back careful_write careful_join;
+    half_first_read half_first_lay_out half_first_place_at_tick half_first_place_of_runner
+        half_first_runner_at_tick half_first_step half_first_back half_first_write half_first_join;
     structs_read structs_lay_out structs_place_at_tick structs_place_of_runner
         structs_runner_at_tick structs_step structs_back structs_write structs_join;
 }
@@ -118,6 +120,20 @@ pub const CAREFUL: Calls = Calls {
     back: careful_back,
     write: careful_write,
     join: careful_join,
+};
+
+/// c/careful.c with HALF_FIRST.
+pub const HALF_FIRST: Calls = Calls {
+    name: "careful.c, half first",
+    read: half_first_read,
+    lay_out: half_first_lay_out,
+    place_at_tick: half_first_place_at_tick,
+    place_of_runner: half_first_place_of_runner,
+    runner_at_tick: half_first_runner_at_tick,
+    step: half_first_step,
+    back: half_first_back,
+    write: half_first_write,
+    join: half_first_join,
 };
 
 /// The library by the header's functions over structs (c/header.c).

@@ -7,6 +7,7 @@ pub mod exact;
 pub mod fence;
 pub mod header;
 pub mod lists;
+pub mod mirrors;
 pub mod model;
 pub mod options;
 pub mod pairs;

@@ -4,35 +4,14 @@
 //! shares nothing with the Rattle code or with the C files here. A refusal is `Err` with its number of group N.
 
 mod joining;
+mod refusals;
+mod runners;
 mod writing;
 
 pub use joining::join;
+pub use refusals::*;
+pub use runners::{backed, runner_at_tick, stepped};
 pub use writing::{write, Lists};
-
-pub const TORN: u64 = 1;
-pub const EDITION: u64 = 2;
-pub const ENDS: u64 = 3;
-pub const POINTS: u64 = 4;
-pub const SIZE: u64 = 5;
-pub const LEG: u64 = 6;
-pub const REACH: u64 = 7;
-pub const SLOPE: u64 = 8;
-pub const SHELF: u64 = 9;
-pub const PAST: u64 = 10;
-pub const ADRIFT: u64 = 11;
-pub const BEND: u64 = 12;
-pub const LANDED: u64 = 13;
-pub const PAGE: u64 = 14;
-pub const START: u64 = 15;
-pub const SHUT: u64 = 16;
-pub const APART: u64 = 17;
-pub const CROWDED: u64 = 18;
-
-/// The words of N1 to N18, by number; 0 has none.
-pub const WORDS: [&str; 19] = [
-    "", "torn", "edition", "ends", "points", "size", "leg", "reach", "slope", "shelf", "past", "adrift", "bend", "landed", "page", "start",
-    "shut", "apart", "crowded",
-];
 
 /// S4.
 #[derive(Clone, Copy, PartialEq, Eq, Debug)]
@@ -167,9 +146,16 @@ pub struct Row {
     pub right: i128,
 }
 
-/// L4: the largest whole number not above n / d + 1 / 2.
+/// L4: of the two whole numbers beside n / d the nearer one; of two equally near ones the one farther from zero, which below zero is the
+/// lower one.
 pub fn rounded(n: i128, d: i128) -> i128 {
-    (2 * n + d).div_euclid(2 * d)
+    let below = n.div_euclid(d);
+    let (off_below, off_above) = (n - d * below, d * (below + 1) - n);
+    if off_below < off_above || (off_below == off_above && n < 0) {
+        below
+    } else {
+        below + 1
+    }
 }
 
 impl Course {
@@ -266,35 +252,6 @@ impl Course {
         z
     }
 
-    /// P3, P4: the leg and offset that a tick names; none for a tick that the course has not.
-    pub fn runner(&self, tick: u64) -> Option<(usize, i128)> {
-        let ticks = self.ticks();
-        let tick = i128::from(tick);
-        let tick = if self.closed() { tick % ticks } else { tick };
-        if tick > ticks {
-            return None;
-        }
-        let mut start = 0;
-        for (leg, h) in self.legs.iter().enumerate() {
-            if tick < start + h {
-                return Some((leg, tick - start));
-            }
-            start += h;
-        }
-        // the full last leg
-        let last = self.legs.len() - 1;
-        Some((last, self.legs[last]))
-    }
-
-    /// Whether N11 does not apply.
-    pub fn fits(&self, leg: u64, offset: u64) -> bool {
-        if leg >= self.legs.len() as u64 {
-            return false;
-        }
-        let h = self.legs[leg as usize] as u64;
-        offset < h || (!self.closed() && leg as usize == self.legs.len() - 1 && offset == h)
-    }
-
     /// P1, with N12 tested on all three axes before.
     pub fn place(&self, list: &[i64], leg: usize, u: i128) -> Result<[i64; 3], u64> {
         let h = self.legs[leg];
@@ -352,48 +309,4 @@ pub fn place_of_runner(sheet: &[u8], list: &[i64], leg: u64, offset: u64) -> Res
         return Err(ADRIFT);
     }
     course.place(list, leg as usize, i128::from(offset))
-}
-
-/// A6.
-pub fn runner_at_tick(sheet: &[u8], tick: u64) -> Result<(u64, u64), u64> {
-    let course = read(sheet)?;
-    let (leg, offset) = course.runner(tick).ok_or(PAST)?;
-    Ok((leg as u64, offset as u64))
-}
-
-/// A7: the runner one tick on.
-pub fn stepped(sheet: &[u8], leg: u64, offset: u64) -> Result<(u64, u64), u64> {
-    let course = read(sheet)?;
-    if !course.fits(leg, offset) {
-        return Err(ADRIFT);
-    }
-    let h = course.legs[leg as usize] as u64;
-    let last = leg as usize == course.legs.len() - 1;
-    // N13: an offset that fits and is the whole leg is the last tick
-    if offset == h {
-        return Err(LANDED);
-    }
-    // M3: inside the leg or onto an open course's end; else the next leg starts
-    if offset + 1 < h || (last && !course.closed()) {
-        Ok((leg, offset + 1))
-    } else {
-        Ok(((leg + 1) % course.legs.len() as u64, 0))
-    }
-}
-
-/// A12: the runner one tick back. Found by its tick, from which one is taken, going round on a closed course (M7).
-pub fn backed(sheet: &[u8], leg: u64, offset: u64) -> Result<(u64, u64), u64> {
-    let course = read(sheet)?;
-    if !course.fits(leg, offset) {
-        return Err(ADRIFT);
-    }
-    let ticks = course.ticks();
-    let tick = course.legs[..leg as usize].iter().sum::<i128>() + i128::from(offset);
-    // N15
-    if tick == 0 && !course.closed() {
-        return Err(START);
-    }
-    let before = (tick - 1).rem_euclid(ticks);
-    let (leg, offset) = course.runner(before as u64).expect("a tick of the course");
-    Ok((leg as u64, offset as u64))
 }

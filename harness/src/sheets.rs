@@ -137,9 +137,10 @@ pub fn of_size(random: &mut Random, kind: u8, n: usize) -> Draft {
 
 /// A free course on which every one of the 40 passes changes a number, and so would the 41st and 42nd: it ends in a chain of 43 waypoints
 /// on which a change of one travels back from the last one, by one waypoint a pass. Legs there are 256, so that a row is
-/// 4 × Z(i) = d - e - Z(i-1) - Z(i+1), and d - e turns between -2 (just rounded up to 0) and 1 (just rounded down to 0). Of the last
-/// `tail` waypoints those before the chain go straight, so that it is not disturbed; before them legs are mixed and values spread. The
-/// tail begins so far inside the limits that its steps, at most 511 of at most 121, do not leave them.
+/// 4 × Z(i) = d - e - Z(i-1) - Z(i+1), and d - e turns between -1 and 1: a quarter, which is rounded to 0, until the next waypoint's number
+/// has become 1 or -1; then a half, which goes away from zero (L4). Of the last `tail` waypoints those before the chain go straight, so
+/// that it is not disturbed; before them legs are mixed and values spread. The tail begins so far inside the limits that its steps, at most
+/// 511 of at most 105, do not leave them.
 pub fn chain(random: &mut Random, n: usize, tail: usize) -> Draft {
     let spread = n - tail;
     let legs = (0..n - 1).map(|i| if i < spread { random.between(1, 256) as u16 } else { 256 }).collect();
@@ -149,14 +150,14 @@ pub fn chain(random: &mut Random, n: usize, tail: usize) -> Draft {
             point[axis] = within(random, axis);
         }
         let [least, most] = limits(axis);
-        let mut value = random.between(i64::from(least) + 62_000, i64::from(most) - 62_000) as i32;
+        let mut value = random.between(i64::from(least) + 54_000, i64::from(most) - 54_000) as i32;
         let mut step = random.between(-100, 100) as i32;
         for (i, point) in points.iter_mut().enumerate().skip(spread) {
             point[axis] = value;
             // d - e at waypoint i, counted from the last inner waypoint
             step += match n as i64 - 2 - i as i64 {
                 0 => 4,
-                1..=42 if (n - i) % 2 == 1 => -2,
+                1..=42 if (n - i) % 2 == 1 => -1,
                 1..=42 => 1,
                 _ => 0,
             };

@@ -1,12 +1,13 @@
 //! The benchmark: the library's calls against plain C (c/base.c, gcc -O2) and C written with the same care (c/careful.c, gcc -O3), and
-//! laying out plus evaluation against 004's own programs in C (c/pcuspl.c, gcc -O2).
+//! laying out plus evaluation against 004's own programs in C (c/pcuspl.c, gcc -O2). The careful C rounds as the library does, by the
+//! remainder (F5), and in a second form by half the divisor, added first; calls that do not round are the same code in both.
 //!
 //! Ratios are within one run: each comparison runs its candidates in turn, a short block of calls each, for many rounds, and takes each
 //! candidate's quickest blocks. There are eight different sheets of each form, so that no candidate learns one by heart.
 //! harness/usage/bench lists the options. A busy machine blurs the ratios: it prints its load. The targets are our own; nobody asked for
 //! them, and no test rests on them.
 
-use harness::boundary::{Calls, BASE, CAREFUL, LIBRARY};
+use harness::boundary::{Calls, BASE, CAREFUL, HALF_FIRST, LIBRARY};
 use harness::model::{self, Kind, Lists};
 use harness::options::Given;
 use harness::pairs;
@@ -20,6 +21,8 @@ use std::time::Instant;
 /// The targets that we set ourselves, as the most that a ratio may be.
 const OVER_BASE: f64 = 0.95;
 const OVER_CAREFUL: f64 = 1.05;
+const PLACE_OVER_HALF_FIRST: f64 = 1.05;
+const LAY_OUT_OVER_HALF_FIRST: f64 = 1.1;
 const SMALL_OVER_BASE: f64 = 1.3;
 const GROWTH: f64 = 8.5;
 
@@ -86,17 +89,18 @@ impl Bench {
         if !name.contains(&self.only) {
             return None;
         }
-        let candidates = [&LIBRARY, &BASE, &CAREFUL];
+        let over_half_first = call.over_half_first();
+        let candidates = [&LIBRARY, &BASE, &CAREFUL, &HALF_FIRST];
+        let candidates = &candidates[..if over_half_first.is_some() { 4 } else { 3 }];
         let mut works: Vec<Work> = candidates.iter().map(|calls| call.work(calls, form)).collect();
         let times = self.times(&mut works, form.sheets.len());
-        let (over_base, over_careful) = match form.n {
-            512 => (Some(OVER_BASE), Some(OVER_CAREFUL)),
-            3 => (Some(SMALL_OVER_BASE), None),
-            _ => (None, None),
+        let targets = match form.n {
+            512 => [Some(OVER_BASE), Some(OVER_CAREFUL), over_half_first],
+            3 => [Some(SMALL_OVER_BASE), None, None],
+            _ => [None; 3],
         };
-        let base = self.ratio(times[0] / times[1], over_base);
-        let careful = self.ratio(times[0] / times[2], over_careful);
-        println!("{name:<44} {:>9.0} ns   {base} {careful}", times[0]);
+        let ratios: Vec<String> = times[1..].iter().zip(targets).map(|(time, target)| self.ratio(times[0] / time, target)).collect();
+        println!("{}", format!("{name:<44} {:>9.0} ns   {}", times[0], ratios.join(" ")).trim_end());
         Some(times[0])
     }
 
@@ -178,6 +182,15 @@ enum Call {
 }
 
 impl Call {
+    /// The target over the careful C's second form, for the calls that round.
+    fn over_half_first(self) -> Option<f64> {
+        match self {
+            Call::LayOut => Some(LAY_OUT_OVER_HALF_FIRST),
+            Call::PlaceAtLastTick | Call::PlaceOfRunner => Some(PLACE_OVER_HALF_FIRST),
+            _ => None,
+        }
+    }
+
     fn work<'a>(self, calls: &'a Calls, form: &'a Form) -> Work<'a> {
         let sheet = |k: usize| (form.sheets[k].as_ptr(), form.sheets[k].len());
         let list = |k: usize| (form.lists[k].as_ptr(), form.lists[k].len());
@@ -251,7 +264,10 @@ fn main() {
     let mut bench = Bench { seconds, only: given.text("--only").unwrap_or_default(), missed: 0 };
     println!("bench: library {}, seed {seed}, {} s a comparison, quickest blocks of each candidate", harness::LIBRARY, bench.seconds);
     println!("machine: {}", machine());
-    println!("{:<44} {:>12}   {:<25} over careful C   (in brackets: our own targets)", "call", "library", "over plain C");
+    println!(
+        "{:<44} {:>12}   {:<25} {:<25} .. half first   (in brackets: our own targets)",
+        "call", "library", "over plain C", "over careful C"
+    );
     let (open, three, laid) = forms(seed);
     time_calls(&mut bench, &open, &three, &laid);
     println!("against 004's PCUSPL and SEVAL in C (floats, nothing tested; no target): library over 004");

@@ -3,7 +3,7 @@
 use crate::hit::{self, Doing};
 use crate::parts::{Part, Tally};
 use crate::wrapper::{self, Refusal};
-use harness::boundary::{Call, Calls, Lent, Memory, BASE, CAREFUL, LIBRARY, NAMES, STRUCTS};
+use harness::boundary::{Call, Calls, Lent, Memory, BASE, CAREFUL, HALF_FIRST, LIBRARY, NAMES, STRUCTS};
 use harness::fence::{Fenced, Stand};
 use harness::model::{self, Course, Lists, WORDS};
 use harness::room::ROOM;
@@ -36,7 +36,7 @@ pub struct Comparison {
     page: Fenced<u8>,
 }
 
-pub const ALL: [Calls; 4] = [LIBRARY, STRUCTS, BASE, CAREFUL];
+pub const ALL: [Calls; 5] = [LIBRARY, STRUCTS, BASE, CAREFUL, HALF_FIRST];
 
 /// The lists of a call that is not a writing.
 static NO_LISTS: Lists = Lists { kind: 0, legs: vec![], waypoints: vec![], slopes: vec![] };
@@ -110,7 +110,11 @@ impl Comparison {
         self.without_room += u64::from([0, ROOM].contains(&answer) && call.lacks_room(before));
         for (i, calls) in self.implementations.iter().enumerate() {
             let got = self.call(calls, call, sheet, before);
-            let part = [self.part, Part::Structs, Part::CFiles, Part::CFiles][i];
+            let part = match i {
+                0 => self.part,
+                1 => Part::Structs,
+                _ => Part::CFiles,
+            };
             let name = calls.name;
             self.tally.check(part, got.0 == answer && got.1 == after, || {
                 let (sheet, number, left) = (hex(sheet), got.0, got.1);

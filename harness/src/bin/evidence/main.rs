@@ -9,6 +9,7 @@ mod distance;
 mod header;
 mod hit;
 mod joins;
+mod mirrors;
 mod parts;
 mod sheets;
 mod walks;

@@ -22,6 +22,8 @@ pub enum Part {
     RoundTrips,
     /// Sheets that the library joins, reads again and lays out, with every waypoint of the two at its tick (J3, J4).
     Joined,
+    /// Sheets and their mirror images, which the library lays out and flies (L7, P6).
+    Mirrored,
     /// Each number that a call tests was reached, no other.
     Answers,
     /// Bend numbers against the elimination in floats.
@@ -51,7 +53,7 @@ pub enum Part {
 }
 
 /// The parts' names, in the order above.
-pub const NAMES: [&str; 22] = [
+pub const NAMES: [&str; 23] = [
     "worked",
     "header",
     "calls",
@@ -61,6 +63,7 @@ pub const NAMES: [&str; 22] = [
     "memory",
     "round-trips",
     "joined",
+    "mirrored",
     "answers",
     "bends",
     "places",

@@ -2,7 +2,7 @@
 
 use crate::compare::{Comparison, ALL};
 use crate::parts::Part;
-use crate::{joins, writes, Options};
+use crate::{joins, mirrors, writes, Options};
 use harness::boundary::{Call, Lent, NAMES, TESTS};
 use harness::fence::Stand;
 use harness::lists;
@@ -11,7 +11,6 @@ use harness::random::Random;
 use harness::sheets;
 
 pub fn run(options: &Options, comparison: &mut Comparison) {
-    comparison.part = Part::Calls;
     // these sheets have to reach every number themselves, whatever the worked ones reached
     (comparison.answers, comparison.without_room) = ([[0; WORDS.len()]; NAMES.len()], 0);
     let (stand, mut of_kind) = (comparison.stand, [0_u64; 3]);
@@ -41,8 +40,9 @@ pub fn run(options: &Options, comparison: &mut Comparison) {
     coverage(comparison, all);
 }
 
-/// One sheet on every call, and its lists, or those of another sheet where it is refused; and a pair to join.
+/// One sheet on every call, and its lists, or those of another sheet where it is refused; a pair to join; and a sheet with its mirror image.
 fn one_sheet(random: &mut Random, comparison: &mut Comparison, of_kind: &mut [u64; 3]) {
+    comparison.part = Part::Calls;
     let sheet = match random.below(10) {
         0..=3 => sheets::accepted(random).bytes(),
         4..=6 => sheets::at_edges(random),
@@ -62,6 +62,7 @@ fn one_sheet(random: &mut Random, comparison: &mut Comparison, of_kind: &mut [u6
     };
     writes::run(random, comparison, &lists, &accepted);
     joins::run(random, comparison);
+    mirrors::run(random, comparison);
 }
 
 /// What is lent, filled with numbers that a call must replace or leave.

@@ -12,18 +12,22 @@ use harness::sheets::{chain, Draft, CLOSED, FREE, HELD};
 /// A course with its north values; bend numbers of north; ticks with the place's north.
 pub type Worked = (Draft, &'static [i64], &'static [(u64, i64)]);
 
-/// W1 to W9.
+/// W1 to W9, W16.
 pub fn courses() -> Vec<Worked> {
     let square = Draft::of(CLOSED, &[2; 4], &[0, 6, 0, -6], None);
     vec![
         (Draft::of(FREE, &[2, 2], &[0, 8, 0], None), &[0, -65_536, 0], &[(0, 0), (1, 6), (2, 8), (3, 6), (4, 0)]),
-        (Draft::of(FREE, &[2, 2], &[0, -8, 0], None), &[0, 65_536, 0], &[(1, -5)]),
-        (Draft::of(FREE, &[1, 1, 1], &[0, 1, 0, 0], None), &[0, -39_321, 26_214, 0], &[]),
+        (Draft::of(FREE, &[2, 2], &[0, -8, 0], None), &[0, 65_536, 0], &[(1, -6)]),
+        (Draft::of(FREE, &[1, 1, 1], &[0, 1, 0, 0], None), &[0, -39_322, 26_215, 0], &[]),
         (Draft::of(FREE, &[1, 2], &[0, 0, 6], None), &[0, 32_768, 0], &[(2, 2)]),
         (Draft::of(HELD, &[4], &[0, 16], Some([0, 0])), &[65_536, -65_536], &[(1, 3), (2, 8)]),
         (Draft::of(HELD, &[4], &[0, 16], Some([4, 4])), &[0, 0], &[(1, 4)]),
         (square, &[0, -49_152, 0, 49_152], &[(1, 4), (7, -4), (18_446_744_073_709_551_615, -4)]),
         (Draft::of(FREE, &[5], &[3, -4], None), &[0, 0], &[]),
+        // W16: a course, its mirror image, and the image with the slopes as they were, which is none
+        (Draft::of(HELD, &[4], &[0, 16], Some([8, 8])), &[-65_536, 65_536], &[(1, 6), (2, 8), (3, 11)]),
+        (Draft::of(HELD, &[4], &[0, -16], Some([-8, -8])), &[65_536, -65_536], &[(1, -6), (2, -8), (3, -11)]),
+        (Draft::of(HELD, &[4], &[0, -16], Some([8, 8])), &[-196_608, 196_608], &[]),
     ]
 }
 
