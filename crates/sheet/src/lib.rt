@@ -1,6 +1,7 @@
 // The course sheet and its reader (groups S, N, A): whatever bytes are handed over, they are read or refused. For every later crate.
 mod bytes;
 mod fields;
+mod legs;
 mod limits;
 mod reader;
 mod refusals;
@@ -16,6 +17,7 @@ pub use limits::reach_outside;
 pub use limits::slope_outside;
 pub use reader::kind_of;
 pub use reader::read;
+pub use reader::read_with_sums;
 pub use reader::sheet_length;
 pub use refusals::number_of;
 
@@ -24,6 +26,11 @@ pub const MOST_POINTS: usize = 512;
 
 // S9: the bytes of the longest sheet that is accepted.
 pub const LONGEST_SHEET: usize = 7198;
+
+// P7: the legs from one kept sum to the next, and how many sums that gives at most.
+pub const STRIDE: usize = 16;
+
+pub const SUMS: usize = 33;
 
 // The refusals, in the order of their numbers (N1 to N18).
 pub enum Refusal {

@@ -5,19 +5,21 @@ ghost use Prim.Native.Nat.{_+_, _*_, _≤_, _<_};
 ghost use lib.IntN.{natAbs};
 ghost use lib.ListN.{length};
 ghost use Rattle.sheet.specs.Answers.{told};
-ghost use Rattle.sheet.specs.Bytes.{be16, be32, signed32, anyBelow, sumBelow};
-ghost use Rattle.sheet.specs.Fields.{kindField, kindOf, leg, waypointsFrom, waypoint, slopesFrom, slopeBytes, sheetLength};
-ghost use Rattle.sheet.specs.Reading.{legOutside, reachOutside, slopeOutside, slopesOutside, mostPoints, longestSheet, lowest, readSheet};
+ghost use Rattle.sheet.specs.Bytes.{be16, be32, signed32, anyBelow};
+ghost use Rattle.sheet.specs.Fields.{kindField, kindOf, legs, waypointsFrom, waypoint, slopesFrom, slopeBytes, sheetLength};
+ghost use Rattle.sheet.specs.Reading.{reachOutside, slopeOutside, slopesOutside, mostPoints, longestSheet, lowest, readSheet};
+ghost use Rattle.sheet.specs.Carried.{Carried, CarriedBy, mostSums};
 ghost use Rattle.sheet.specs.declared.Refusal.the-variants.{Edition, Ends, Points, Size, Leg, Reach, Slope};
 use crate::LONGEST_SHEET;
 use crate::MOST_POINTS;
 use crate::Reading;
 use crate::Refusal;
+use crate::SUMS;
 use crate::bytes::read_signed;
 use crate::bytes::read16;
 use crate::bytes::read32;
+use crate::legs::add_legs;
 use crate::limits::bits_outside;
-use crate::limits::leg_outside;
 use crate::limits::slope_outside;
 use ends::EndKind;
 
@@ -50,29 +52,6 @@ fn longest_sheet() -> usize
     ensures { λ r. ⌜ r ≡ longestSheet ⌝ }
 {
     LONGEST_SHEET
-}
-
-// The sum of the legs, and whether one of them is outside its limits.
-struct Legs {
-    ticks: u64,
-    outside: bool,
-}
-
-// N6, and P: all legs are summed, also past one that is outside.
-fn add_legs(s: &[u8], count: usize) -> Legs
-    requires { ⌜ (8 + 2 * count ≤ length (now s)) × (count < 65536) ⌝ }
-    ensures { λ r. ⌜ (r .ticks ≡ sumBelow (leg (now (s .entry))) count) × (r .outside ≡ anyBelow (λ i. legOutside (leg (now (s .entry)) i)) count) ⌝ }
-{
-    let mut ticks = 0;
-    let mut outside = false;
-    let mut i = 0;
-    while i < count {
-        let h = read16(s, 8 + 2 * i);
-        outside = outside | leg_outside(h);
-        ticks = ticks + h;
-        i = i + 1;
-    }
-    Legs { ticks, outside }
 }
 
 // One side's three slopes (S8).
@@ -146,12 +125,13 @@ fn slopes_outside(s: &[u8], kind: EndKind, from: usize) -> bool
 }
 
 // N6 to N8, of a sheet to which no lower number applies: the first that does, or the course (A1).
-fn read_body(s: &[u8], kind: EndKind, n: usize) -> Reading
-    requires { ⌜ (kind ≡ kindOf (kindField (now s))) × (n ≡ be16 (now s) 6) × (2 ≤ n) × (n ≤ mostPoints) × (length (now s) ≡ sheetLength kind n) ⌝ }
-    ensures { λ r. ⌜ r ≡ lowest mostPoints (now (s .entry)) (Leg ∷ Reach ∷ Slope ∷ []) ⌝ }
+fn read_body(s: &[u8], kind: EndKind, n: usize, sums: &mut [u32; SUMS]) -> Reading
+    requires { ⌜ (kind ≡ kindOf (kindField (now s))) × (n ≡ be16 (now s) 6) × (2 ≤ n) × (n ≤ mostPoints) × (length (now s) ≡ sheetLength kind n) × (length (now sums) ≡ mostSums) ⌝ }
+    ensures answer { λ r. ⌜ r ≡ lowest mostPoints (now (s .entry)) (Leg ∷ Reach ∷ Slope ∷ []) ⌝ }
+    ensures sums { λ r. ⌜ Carried (now (s .entry)) (legs (now (s .entry))) (now (sums .exit)) ⌝ }
 {
     let count = ends::leg_count(kind, n);
-    let legs = add_legs(s, count);
+    let legs = add_legs(s, count, sums);
     if legs.outside {
         return Reading::Refused(Refusal::Leg);
     }
@@ -165,15 +145,16 @@ fn read_body(s: &[u8], kind: EndKind, n: usize) -> Reading
     Reading::Course {
         kind,
         points: n,
-        ticks: legs.ticks,
+        ticks: legs.ticks as u64,
     }
 }
 
 // N2 to N5, of a sheet that is not torn, then the body. (Apart from N1: behind seven tests in one function the compiler takes the body for unlikely, and the
 // answer goes through memory twice, which is half of a small sheet's time.)
-fn read_fields(s: &[u8]) -> Reading
-    requires { ⌜ 8 ≤ length (now s) ⌝ }
-    ensures { λ r. ⌜ r ≡ lowest mostPoints (now (s .entry)) (Edition ∷ Ends ∷ Points ∷ Size ∷ Leg ∷ Reach ∷ Slope ∷ []) ⌝ }
+fn read_fields(s: &[u8], sums: &mut [u32; SUMS]) -> Reading
+    requires { ⌜ (8 ≤ length (now s)) × (length (now sums) ≡ mostSums) ⌝ }
+    ensures answer { λ r. ⌜ r ≡ lowest mostPoints (now (s .entry)) (Edition ∷ Ends ∷ Points ∷ Size ∷ Leg ∷ Reach ∷ Slope ∷ []) ⌝ }
+    ensures sums { λ r. ⌜ CarriedBy r (now (s .entry)) (now (sums .exit)) ⌝ }
 {
     if s[4] != 1 {
         return Reading::Refused(Refusal::Edition);
@@ -193,12 +174,14 @@ fn read_fields(s: &[u8]) -> Reading
     if s.len() != sheet_length(kind, n) {
         return Reading::Refused(Refusal::Size);
     }
-    read_body(s, kind, n)
+    read_body(s, kind, n, sums)
 }
 
-// N1, then the fields: whatever the bytes, they are read or refused (D1).
-pub fn read(s: &[u8]) -> Reading
-    ensures { λ r. ⌜ told r ≡ told (readSheet (now (s .entry))) ⌝ }
+// N1, then the fields: whatever the bytes, they are read or refused (D1). The sums of a course's legs stay behind (P7).
+pub fn read_with_sums(s: &[u8], sums: &mut [u32; SUMS]) -> Reading
+    requires { ⌜ length (now sums) ≡ mostSums ⌝ }
+    ensures answer { λ r. ⌜ told r ≡ told (readSheet (now (s .entry))) ⌝ }
+    ensures sums { λ r. ⌜ CarriedBy r (now (s .entry)) (now (sums .exit)) ⌝ }
 {
     let length = s.len();
     if length < 8 {
@@ -207,5 +190,13 @@ pub fn read(s: &[u8]) -> Reading
     if read32(s, 0) != length as u64 {
         return Reading::Refused(Refusal::Torn);
     }
-    read_fields(s)
+    read_fields(s, sums)
+}
+
+// The answer alone, for the calls that search no tick's leg.
+pub fn read(s: &[u8]) -> Reading
+    ensures { λ r. ⌜ told r ≡ told (readSheet (now (s .entry))) ⌝ }
+{
+    let mut sums = [0u32; SUMS];
+    read_with_sums(s, &mut sums)
 }

@@ -8,6 +8,7 @@ use Rattle.ends.specs.Ends.{legCount}
 use Rattle.ends.specs.declared.EndKind.{EndKind}
 use Rattle.ends.specs.declared.EndKind.the-variants.{Closed}
 use Rattle.sheet.specs.Bytes.{anyBelow, sumBelow}
+use Rattle.sheet.specs.Carried.{Carried}
 use Rattle.sheet.specs.Fields.{legs, leg, ticks, waypoint}
 use Rattle.sheet.specs.Reading.{legOutside, reachOutside, slopesOutside, applies, mostPoints, lowest}
 use Rattle.sheet.specs.declared.Refusal.the-variants.{Leg, Reach, Slope}
@@ -32,35 +33,39 @@ module _ (c : tie.After-leg-count) where
   few = omega (arith, c .leg-count .ensures, legs-at-most (c .before .before .args .kind) (c .before .before .args .n))
 
 -- the answers, as the definition asks
-asks-leg : (c : tie.After-add-legs) → c .add-legs .result .outside ≡ applies mostPoints (S (c .before)) Leg
-asks-leg c = c .add-legs .ensures .1 ∙ ap (anyBelow (λ i. legOutside (leg (S (c .before)) i))) (is-legs (c .before))
+asks-leg : (c : tie.After-add-legs) → c .add-legs .result .outside ≡ applies mostPoints (S (c .before .before)) Leg
+asks-leg c = c .add-legs .ensures .0 .1 ∙ ap (anyBelow (λ i. legOutside (leg (S (c .before .before)) i))) (is-legs (c .before .before))
 
-asks-reach : (c : tie.After-waypoints-outside) → c .waypoints-outside .result ≡ applies mostPoints (S (c .before .before .before)) Reach
+asks-reach : (c : tie.After-waypoints-outside) → c .waypoints-outside .result ≡ applies mostPoints (S (c .before .before .before .before)) Reach
 asks-reach c =
-    let p = c .before .before .before in
+    let p = c .before .before .before .before in
     c .waypoints-outside .ensures ∙ ap (anyBelow (λ i. anyBelow (λ axis. reachOutside axis (waypoint (S p) axis i)) 3)) (p .before .before .pre .1)
 
-asks-slope : (c : tie.After-slopes-outside) → c .slopes-outside .result ≡ applies mostPoints (S (c .before .before .before .before .before)) Slope
+asks-slope : (c : tie.After-slopes-outside) → c .slopes-outside .result ≡ applies mostPoints (S (c .before .before .before .before .before .before)) Slope
 asks-slope c =
-    let p = c .before .before .before .before .before in
+    let p = c .before .before .before .before .before .before in
     c .slopes-outside .ensures ∙ ap (λ (k : EndKind). slopesOutside k (S p)) (p .before .before .pre .0)
 
--- what is left after a test
-leg-passed : (c : tie.Else1) → let s = S (c .before .before) in lowest mostPoints s (past 6) ≡ lowest mostPoints s (past 5)
-leg-passed c = passed (S (c .before .before)) Leg (past 6) (sym (asks-leg (c .before)) ∙ c .if1 .left)
+-- whatever is answered, the sums of the sheet's own legs are kept
+kept-sums : (c : tie.After-add-legs) → Carried (S (c .before .before)) (legs (S (c .before .before))) (c .add-legs .last .1 .1 .0)
+kept-sums c b h = c .add-legs .ensures .1 b (omega (arith, is-legs (c .before .before)))
 
-reach-passed : (c : tie.Else2) → let s = S (c .before .before .before .before) in lowest mostPoints s (past 7) ≡ lowest mostPoints s (past 5)
+-- what is left after a test
+leg-passed : (c : tie.Else1) → let s = S (c .before .before .before) in lowest mostPoints s (past 6) ≡ lowest mostPoints s (past 5)
+leg-passed c = passed (S (c .before .before .before)) Leg (past 6) (sym (asks-leg (c .before)) ∙ c .if1 .left)
+
+reach-passed : (c : tie.Else2) → let s = S (c .before .before .before .before .before) in lowest mostPoints s (past 7) ≡ lowest mostPoints s (past 5)
 reach-passed c =
-    passed (S (c .before .before .before .before)) Reach (past 7) (sym (asks-reach (c .before)) ∙ c .if2 .left) ∙ leg-passed (c .before .before)
+    passed (S (c .before .before .before .before .before)) Reach (past 7) (sym (asks-reach (c .before)) ∙ c .if2 .left) ∙ leg-passed (c .before .before)
 
 leg-count-requires : tie.Need-leg-count-requires
 leg-count-requires c κs = search needs
 
 add-legs-requires : tie.Need-add-legs-requires
-add-legs-requires c κs = (omega (arith, c .leg-count .ensures), omega (arith, few c))
+add-legs-requires c κs = (omega (arith, c .before .leg-count .ensures), omega (arith, few (c .before)), c .before .before .before .pre .5)
 
 returns : tie.Need-returns
-returns c = stopped (S (c .before .before)) Leg (past 6) (sym (asks-leg (c .before)) ∙ c .if1 .taken)
+returns c = (stopped (S (c .before .before .before)) Leg (past 6) (sym (asks-leg (c .before)) ∙ c .if1 .taken), kept-sums (c .before))
 
 mul-from : tie.Need-mul-from
 mul-from c = search needs
@@ -69,12 +74,14 @@ add-from : tie.Need-add-from
 add-from c = search needs
 
 waypoints-outside-requires : tie.Need-waypoints-outside-requires
-waypoints-outside-requires c κs = (ap (λ (m : ℕ). 8 + 2 * m) (is-legs (c .before .before)), omega (arith, c .before .before .leg-count .ensures))
+waypoints-outside-requires c κs =
+    let p = c .before .before .before in
+    (ap (λ (m : ℕ). 8 + 2 * m) (is-legs p), omega (arith, p .leg-count .ensures))
 
 returns-2 : tie.Need-returns-2
 returns-2 c =
-    let s = S (c .before .before .before .before) in
-    stopped s Reach (past 7) (sym (asks-reach (c .before)) ∙ c .if2 .taken) ∙ leg-passed (c .before .before)
+    let a = c .before .before .before in
+    (stopped (S (a .before .before)) Reach (past 7) (sym (asks-reach (c .before)) ∙ c .if2 .taken) ∙ leg-passed (c .before .before), kept-sums a)
 
 mul-slopes-outside : tie.Need-mul-slopes-outside
 mul-slopes-outside c = search needs
@@ -84,19 +91,25 @@ add-slopes-outside c = search needs
 
 slopes-outside-requires : tie.Need-slopes-outside-requires
 slopes-outside-requires c κs =
-    let p = c .before .before .before .before in
+    let p = c .before .before .before .before .before in
     ((λ i. 8 + 2 * is-legs p i + 12 * p .before .before .pre .1 i), omega (arith, p .leg-count .ensures))
 
 returns-3 : tie.Need-returns-3
 returns-3 c =
-    let s = S (c .before .before .before .before .before .before) in
-    stopped s Slope (past 8) (sym (asks-slope (c .before)) ∙ c .if3 .taken) ∙ reach-passed (c .before .before)
+    let a = c .before .before .before .before .before in
+    (stopped (S (a .before .before)) Slope (past 8) (sym (asks-slope (c .before)) ∙ c .if3 .taken) ∙ reach-passed (c .before .before), kept-sums a)
+
+cast-t17 : tie.Need-cast-t17
+cast-t17 c = search needs
 
 returns-4 : tie.Need-returns-4
 returns-4 c =
-    let a = c .before .before .before .before .before in let p = a .before in let s = S p in let pre = p .before .before .pre in
-    let total : a .add-legs .result .ticks ≡ ticks s = a .add-legs .ensures .0 ∙ ap (sumBelow (leg s)) (is-legs p) in
-    (λ i. Course (pre .0 i) (pre .1 i) (total i)) ∙ passed s Slope (past 8) (sym (asks-slope (c .before)) ∙ c .if3 .left) ∙ reach-passed (c .before .before)
+    let e = c .before in
+    let a = e .before .before .before .before .before in let p = a .before .before in let s = S p in let pre = p .before .before .pre in
+    let total : a .add-legs .result .ticks ≡ ticks s = a .add-legs .ensures .0 .0 ∙ ap (sumBelow (leg s)) (is-legs p) in (
+      (λ i. Course (pre .0 i) (pre .1 i) (total i)) ∙ passed s Slope (past 8) (sym (asks-slope (e .before)) ∙ e .if3 .left) ∙ reach-passed (e .before .before),
+      kept-sums a,
+    )
 
 pub read-body-spec : {M : Type 1} → statement M
 read-body-spec =
@@ -113,4 +126,5 @@ read-body-spec =
     add-slopes-outside
     slopes-outside-requires
     returns-3
+    cast-t17
     returns-4)

@@ -13,6 +13,7 @@ use Rattle.sheet.specs.Fields.{kind, points, sheetLength}
 use Rattle.sheet.specs.Reading.{mostPoints, lowest}
 use Rattle.sheet.specs.declared.Refusal.the-variants.{Edition, Ends, Points, Size}
 use Rattle.sheet.proofs.ByKind.{least-two}
+use Rattle.sheet.proofs.Carried.{carried-by}
 use Rattle.sheet.proofs.Lowest.{past, passed, stopped}
 use Rattle.sheet.proofs.reader.read_fields.Statement.{statement}
 use Rattle.sheet.proofs.reader.read_fields.Tie as tie
@@ -69,7 +70,7 @@ shared-slice-read-if1 : tie.Need-shared-slice-read-if1
 shared-slice-read-if1 c = search needs
 
 returns : tie.Need-returns
-returns c = let s = S (c .before .before .before) in stopped s Edition (past 2) (simp (ne-eqb (byte s 4) 1 (c .if1 .taken)))
+returns c = let s = S (c .before .before .before) in (stopped s Edition (past 2) (simp (ne-eqb (byte s 4) 1 (c .if1 .taken))), tt)
 
 shared-slice-read-ends-byte : tie.Need-shared-slice-read-ends-byte
 shared-slice-read-ends-byte c = search needs
@@ -77,7 +78,7 @@ shared-slice-read-ends-byte c = search needs
 returns-2 : tie.Need-returns-2
 returns-2 c =
     let s = S (c .before .before .before .before .before) in
-    stopped s Ends (past 3) (lt-ltb 2 (byte s 5) (c .if2 .taken)) ∙ edition-passed (c .before .before)
+    (stopped s Ends (past 3) (lt-ltb 2 (byte s 5) (c .if2 .taken)) ∙ edition-passed (c .before .before), tt)
 
 kind-of-requires : tie.Need-kind-of-requires
 kind-of-requires c κs = search needs
@@ -92,13 +93,13 @@ returns-3 : tie.Need-returns-3
 returns-3 c =
     let p = c .before in let s = s-of p in
     let h : points s < leastPoints (kind s) = omega (arith, is-least p, is-points p) in
-    stopped s Points (past 4) (simp (lt-ltb (points s) (leastPoints (kind s)) h)) ∙ ends-passed (p .before .before .before)
+    (stopped s Points (past 4) (simp (lt-ltb (points s) (leastPoints (kind s)) h)) ∙ ends-passed (p .before .before .before), tt)
 
 returns-4 : tie.Need-returns-4
 returns-4 c =
     let p = c .before .before in let s = s-of p in
     let g = lt-ltb 512 (points s) (omega (arith, is-points p)) in
-    stopped s Points (past 4) (simp (le-ltb (points s) (leastPoints (kind s)) (enough (c .before)), g)) ∙ ends-passed (p .before .before .before)
+    (stopped s Points (past 4) (simp (le-ltb (points s) (leastPoints (kind s)) (enough (c .before)), g)) ∙ ends-passed (p .before .before .before), tt)
 
 sheet-length-requires : tie.Need-sheet-length-requires
 sheet-length-requires c κs = (omega (arith, two c), omega arith)
@@ -107,15 +108,15 @@ returns-5 : tie.Need-returns-5
 returns-5 c =
     let p = c .before .before .before .before in let s = s-of p in
     let size = sheetLength (kind s) (points s) in
-    stopped s Size (past 5) (simp (ne-eqb (length s) size (λ e. c .if5 .taken (e ∙ sym (is-size (c .before)))))) ∙ points-passed (c .before .before)
+    (stopped s Size (past 5) (simp (ne-eqb (length s) size (λ e. c .if5 .taken (e ∙ sym (is-size (c .before)))))) ∙ points-passed (c .before .before), tt)
 
 read-body-requires : tie.Need-read-body-requires
 read-body-requires c κs =
-    let p = c .before .before .before .before in
-    (p .before .before .kind-of .ensures, is-points p, two (c .before .before), omega arith, c .if5 .left ∙ c .before .sheet-length .ensures)
+    let e = c .before in let p = e .before .before .before .before in
+    (p .before .before .kind-of .ensures, is-points p, two (e .before .before), omega arith, e .if5 .left ∙ e .before .sheet-length .ensures, p .before .before .before .before .before .before .before .before .pre .1)
 
 returns-6 : tie.Need-returns-6
-returns-6 c = c .read-body .ensures ∙ size-passed (c .before)
+returns-6 c = (c .read-body .ensures .0 ∙ size-passed (c .before .before), carried-by (c .read-body .result) _ _ (c .read-body .ensures .1))
 
 pub read-fields-spec : {M : Type 1} → statement M
 read-fields-spec =
