@@ -14,6 +14,7 @@ use bends::is_short;
 use runner::Runner;
 use sheet::Reading;
 use sheet::Refusal;
+use sheet::SUMS;
 
 // P2, F1: north, east, up.
 pub struct Place {
@@ -67,7 +68,8 @@ pub fn place_at_tick(s: &[u8], list: &[i64], tick: u64) -> Placed
     ensures told { λ r. ⌜ toldPlaced r ≡ placeAtTick (now (s .entry)) (now (list .entry)) tick ⌝ }
     ensures place { λ r. ⌜ r .place .at ≡ placeHeld (placeAtTick (now (s .entry)) (now (list .entry)) tick) ⌝ }
 {
-    let reading = sheet::read(s);
+    let mut sums = [0u32; SUMS];
+    let reading = sheet::read_with_sums(s, &mut sums);
     let Reading::Course {
         kind,
         points,
@@ -83,7 +85,7 @@ pub fn place_at_tick(s: &[u8], list: &[i64], tick: u64) -> Placed
         return refused(Refusal::Past);
     }
     let legs = ends::leg_count(kind, points);
-    let at = runner::spot_at(s, kind, legs, ticks, tick);
+    let at = runner::spot_at(s, kind, legs, ticks, &sums, tick);
     place_at(s, list, points, legs, at)
 }
 

@@ -4,12 +4,10 @@ use mathlib.Core.Path.{_≡_, refl, ap}
 use mathlib.Core.Bool.{cond}
 use mathlib.Core.Logic.{_⊎_, inl, inr, ⊎-elim}
 use Prim.Native.Nat.{ℕ, zero, suc, _+_, _-_, _≤_, _<_}
-use native.Mathlib.Numerals.{add-one}
 use native.Mathlib.Omega.{arith}
 use lib.Dec.{ltb, ltb→lt, nltb→le}
-use borrow.Author.Tests.{lt-ltb, le-ltb}
 use Rattle.integers.proofs.Order.{by-test, le-or-lt}
-use Rattle.sheet.proofs.Below.{sum-monotone}
+use Rattle.sheet.proofs.Below.{sum-step, sum-monotone}
 use Rattle.sheet.specs.Bytes.{sumBelow}
 use Rattle.runner.specs.Ticks.{runner, walk}
 use Rattle.runner.specs.declared.Runner.{Runner}
@@ -78,20 +76,21 @@ walk-only h (suc k) i t r f =
     (λ q. same-leg h (suc k) i t r f (stays h (suc k) i t r q f))
     (λ q. walk-only h k (suc i) (t - h i) r (to-next h k i t r q f))
 
--- ---- the walk over n legs as a loop takes it: at leg i there are n - 1 - i left
-pub walk-stays : (h : ℕ → ℕ) (k i t : ℕ) → t < h i → walk h k i t ≡ runner i t
-unfolding walk
-walk-stays h zero i t q = refl
-walk-stays h (suc k) i t q = rw (lt-ltb t (h i) q)
+-- P7: told by the sums alone: leg i starts at the tick or before it, and ends after it or is the last of the n legs
+pub walk-by-sums : (h : ℕ → ℕ) (n i t : ℕ) → i < n → sumBelow h i ≤ t → (t < sumBelow h (i + 1)) ⊎ (i + 1 ≡ n) → runner i (t - sumBelow h i) ≡ walk h (n - 1) 0 t
+unfolding sumBelow
+walk-by-sums h n i t p from till =
+    walk-only h (n - 1) 0 t (runner i (t - sumBelow h i)) (record {
+      first = omega arith;
+      last = omega arith;
+      within = ⊎-elim (λ q. inl (omega (arith, sum-step h i))) (λ e. inr (omega arith)) till;
+      tick = omega arith;
+    })
 
-pub walk-on : (h : ℕ → ℕ) (n i t : ℕ) → i + 1 < n → h i ≤ t → walk h (n - 1 - i) i t ≡ walk h (n - 1 - (i + 1)) (i + 1) (t - h i)
-unfolding walk
-walk-on h n i t p q =
-    let one-less : n - 1 - i ≡ suc (n - 1 - (i + 1)) = omega arith in
-    rw (one-less, le-ltb t (h i) q, add-one i)
-
-pub walk-ends : (h : ℕ → ℕ) (n i t : ℕ) → n ≤ i + 1 → walk h (n - 1 - i) i t ≡ runner i t
-unfolding walk
-walk-ends h n i t p =
-    let none-left : n - 1 - i ≡ 0 = omega arith in
-    rw none-left
+-- and so is the leg that the walk finds
+pub walk-sums : (h : ℕ → ℕ) (n t : ℕ) → 1 ≤ n → let r = walk h (n - 1) 0 t in
+    (r .leg < n) × (sumBelow h (r .leg) ≤ t) × ((t < sumBelow h (r .leg + 1)) ⊎ (r .leg + 1 ≡ n))
+unfolding sumBelow
+walk-sums h n t some =
+    let f = walk-finds h (n - 1) 0 t in let i = walk h (n - 1) 0 t .leg in
+    (omega arith, omega arith, ⊎-elim (λ q. inl (omega (arith, sum-step h i))) (λ e. inr (omega arith)) (f .within))

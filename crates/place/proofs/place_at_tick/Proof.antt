@@ -15,7 +15,7 @@ use Rattle.sheet.specs.declared.Refusal.the-variants.{Past}
 use Rattle.layout.specs.Layout.{short}
 use Rattle.runner.specs.Ticks.{isOpen, past}
 use Rattle.runner.specs.Steps.{adrift}
-use Rattle.runner.proofs.Entry.{Course, course}
+use Rattle.runner.proofs.Entry.{Course, course, carried}
 use Rattle.place.specs.Places.{bendOrPlace, placeAtTick}
 use Rattle.place.proofs.Entry.{read-refused, shelf-refused, let-on, few-points, fitting}
 use Rattle.place.proofs.Waypoints.{spot-fits}
@@ -31,16 +31,16 @@ both-tried s list t n p k a b c = simp (a, b, c) refl
 -- the reader answered with a course
 module _ (c : tie.After-known-told) where
   abbrev s : List ℕ
-  s = c .before .before .before .before .before .args .s .now
+  s = c .before .before .before .before .before .before .args .s .now
 
   abbrev list : List ℤ
-  list = c .before .before .before .before .before .args .list .now
+  list = c .before .before .before .before .before .before .args .list .now
 
   abbrev tick : ℕ
-  tick = c .before .before .before .before .before .args .tick
+  tick = c .before .before .before .before .before .before .args .tick
 
   told-course : Course s (c .before .reading .given .0 .0) (c .before .reading .given .0 .1 .0) (c .before .reading .given .0 .1 .1 .0)
-  told-course = course s _ (c .before .before .before .read .ensures) _ _ _ (c .before .reading .given .1)
+  told-course = course s _ (c .before .before .before .read-with-sums .ensures .0) _ _ _ (c .before .reading .given .1)
 
 -- the test of 10 is the definition's
 past-said : (c : tie.After-is-past) → let k = c .before .before .before in c .is-past .result ≡ past (s k) (tick k)
@@ -48,8 +48,8 @@ past-said c =
     let k = c .before .before .before in let told = told-course k in
     c .is-past .ensures ∙ (λ i. isOpen (told .is-kind i) && ltb (told .is-ticks i) (tick k))
 
-read-requires : tie.Need-read-requires
-read-requires c κs = search needs
+read-with-sums-requires : tie.Need-read-with-sums-requires
+read-with-sums-requires c κs = search needs
 
 enum-known-reading : tie.Need-enum-known-reading
 enum-known-reading c = search needs
@@ -66,8 +66,8 @@ refused-requires c κs = search needs
 returns : tie.Need-returns
 unfolding placeAtTick
 returns c =
-    let t = c .before .before in let r = t .before .before in let g = r .before .before .args in
-    read-refused (c .refused .result) (g .s .now) (g .list .now) _ _ _ _ (r .read .ensures) (t .enum-told .given .1) (c .before .refusal-of .ensures) (c .refused .ensures)
+    let t = c .before .before in let r = t .before .before in let g = r .before .before .before .args in
+    read-refused (c .refused .result) (g .s .now) (g .list .now) _ _ _ _ (r .read-with-sums .ensures .0) (t .enum-told .given .1) (c .before .refusal-of .ensures) (c .refused .ensures)
 
 is-short-requires : tie.Need-is-short-requires
 is-short-requires c κs = few-points (told-course c)
@@ -98,11 +98,13 @@ leg-count-requires : tie.Need-leg-count-requires
 leg-count-requires c κs = told-course (c .before .before .before .before) .some
 
 spot-at-requires : tie.Need-spot-at-requires
-spot-at-requires c κs = let told = told-course (c .before .before .before .before .before) in (told .is-read _ (c .leg-count .ensures), told .is-ticks)
+spot-at-requires c κs =
+    let k = c .before .before .before .before .before .before in let told = told-course k in let is = told .is-read _ (c .before .leg-count .ensures) in
+    (is, (told .is-ticks, carried _ _ _ (k .before .before .before .read-with-sums .ensures .1) (k .before .reading .given .1) is))
 
 place-at-requires : tie.Need-place-at-requires
 place-at-requires c κs =
-    let g = c .before in let q = g .before .before in let w = q .before .before in let k = w .before in let told = told-course k in
+    let g = c .before .before in let q = g .before .before in let w = q .before .before in let k = w .before in let told = told-course k in
     let stands = spot-fits (s k) (told .is-read _ (g .leg-count .ensures) .accepted) (tick k) (sym (past-said q) ∙ g .before .if2 .left) in
     fitting told (list k) (w .is-short .ensures) (q .before .if1 .left) (g .leg-count .result) (c .spot-at .result) (g .leg-count .ensures)
     (ap (adrift (s k)) (c .spot-at .ensures) ∙ stands)
@@ -110,7 +112,7 @@ place-at-requires c κs =
 returns-4 : tie.Need-returns-4
 unfolding placeAtTick
 returns-4 c =
-    let p = c .before in let f = p .before .before in let q = f .before in let w = q .before .before in let k = w .before in
+    let p = c .before in let f = p .before .before .before in let q = f .before in let w = q .before .before in let k = w .before in
     let-on (told-course k) (list k) (w .is-short .ensures) (q .before .if1 .left) (c .place-at .result) _ _ (c .place-at .ensures)
     (ap (bendOrPlace (s k) (list k)) (p .spot-at .ensures) ∙ simp (sym (past-said q) ∙ f .if2 .left))
 
@@ -118,7 +120,7 @@ pub place-at-tick-spec : {M : Type 1} → statement M
 place-at-tick-spec =
     tie.close
     (tie.spec
-    read-requires
+    read-with-sums-requires
     enum-known-reading
     enum-told
     refusal-of-requires
