@@ -22,11 +22,11 @@ use Rattle.spline.proofs.OneCurve.{one-curve}
 use Rattle.spline.proofs.Bends.{bends-near, bends-bounded, position-near}
 use Rattle.spline.proofs.Distance.{position-sharp}
 use Rattle.layout.proofs.Near.{course-in-bounds, laid-out-near}
-use Rattle.runner.proofs.Standing.{tick-stands, one-runner}
+use Rattle.runner.proofs.Standing.{tick-stands, leg-by-sums, one-runner}
 use Rattle.runner.proofs.Onward.{closed-steps, open-steps, step-before}
 use Rattle.runner.proofs.Backward.{back-behind, back-tick, back-ticks}
 use Rattle.runner.proofs.Restored.{back-after-step, step-after-back, backs-after-steps, steps-after-backs}
-use Rattle.runner.proofs.Worked.{moves-tried}
+use Rattle.runner.proofs.Worked.{moves-tried, search-tried}
 use Rattle.place.proofs.Waypoints.{tick-is-runner, leg-ends-met, waypoint-met-at-tick, waypoint-met-by-runner}
 use Rattle.station.proofs.Claim.{claim}
 use Rattle.station.proofs.Own.{own-laid}
@@ -72,6 +72,7 @@ claims = record {
     position-mirrored = position-mirrored;
     sheet-mirrored = sheet-mirrored;
     tick-stands = tick-stands;
+    leg-by-sums = leg-by-sums;
     leg-ends-met = leg-ends-met;
     waypoint-met-at-tick = waypoint-met-at-tick;
     waypoint-met-by-runner = waypoint-met-by-runner;
@@ -105,6 +106,7 @@ claims = record {
     ticks-tried = ticks-tried;
     most-tried = most-tried;
     mirror-tried = mirror-tried;
+    search-tried = search-tried;
     chord-not-near = chord-not-near;
   };
   demand3 = claim;

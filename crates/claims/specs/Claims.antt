@@ -12,9 +12,9 @@ use Rattle.rounding.specs.Theorems.{RoundedNearest, RoundedMirrored}
 use Rattle.systems.specs.Theorems.{Solvable, Unique, SolutionBounded, PassesNear, FortyPassesNear, PassesBounded, EarlyEnd}
 use Rattle.spline.specs.Theorems.{RowGap, RowsFollow, SplineExists, OneCurve, BendsNear, FreePairZeros, BendsBounded, PositionSharp, PositionNear}
 use Rattle.layout.specs.Theorems.{CourseInBounds, LaidOutNear}
-use Rattle.runner.specs.Theorems.{TickStands, OneRunner, ClosedSteps, OpenSteps, StepBefore}
+use Rattle.runner.specs.Theorems.{TickStands, LegBySums, OneRunner, ClosedSteps, OpenSteps, StepBefore}
 use Rattle.runner.specs.Restored.{BackBehind, BackTick, BackTicks, BackAfterStep, StepAfterBack, BacksAfterSteps, StepsAfterBacks}
-use Rattle.runner.specs.Worked.{MovesTried}
+use Rattle.runner.specs.Worked.{MovesTried, SearchTried}
 use Rattle.place.specs.Theorems.{LegEndsMet, WaypointMetAtTick, WaypointMetByRunner, TickIsRunner}
 use Rattle.station.specs.Claim.{Claim, OwnLaid}
 use Rattle.courses.specs.Starred.{StarredRight}
@@ -69,6 +69,8 @@ pub record Demand2 : Type 0 where
   pub sheet-mirrored : SheetMirrored
   -- P3, P4
   pub tick-stands : TickStands
+  -- P7
+  pub leg-by-sums : LegBySums
   -- P5
   pub leg-ends-met : LegEndsMet
   pub waypoint-met-at-tick : WaypointMetAtTick
@@ -124,6 +126,8 @@ pub record Demand2 : Type 0 where
   pub most-tried : MostTried
   -- W16
   pub mirror-tried : MirrorTried
+  -- W17
+  pub search-tried : SearchTried
   -- K4, K8: zeros in place of bend numbers fail on tenfold A
   pub chord-not-near : ChordNotNear
 

@@ -20,9 +20,9 @@ use Rattle.sheet.specs.Fields.{kind, points, legs, leg, ticks}
 use Rattle.sheet.specs.Reading.{Accepted}
 use Rattle.runner.specs.Ticks.{isOpen, reduced, walk, spotAt, tickOf}
 use Rattle.runner.specs.Steps.{landed, adrift}
-use Rattle.runner.specs.Theorems.{Stands, TickStands, OneRunner}
+use Rattle.runner.specs.Theorems.{Stands, TickStands, OneRunner, LegBySums}
 use Rattle.runner.specs.declared.Runner.{Runner}
-use Rattle.runner.proofs.Walk.{Found, walk-finds, walk-only}
+use Rattle.runner.proofs.Walk.{Found, walk-finds, walk-only, walk-by-sums, walk-sums}
 -- checked first, so that a wrong definition fails by its numbers
 use Rattle.runner.proofs.Worked as worked
 
@@ -149,3 +149,11 @@ tick-stands s a t = (
 
 pub one-runner : OneRunner
 one-runner s a r e = sym (spot-of s r (standing s r e))
+
+pub leg-by-sums : LegBySums
+unfolding spotAt
+leg-by-sums s some t =
+    let u = reduced (kind s) (ticks s) t in let f = walk-sums (leg s) (legs s) u some in (
+      record { is-leg = f .0; from = f .1; till = f .2 },
+      (λ i e. sym (walk-by-sums (leg s) (legs s) i u (e .is-leg) (e .from) (e .till))),
+    )

@@ -1,13 +1,17 @@
--- Worked moves (W13): back, and the step beside it, on the legs of course A and of W7. No waypoint matters to a runner.
+-- Worked moves (W13): back, and the step beside it, on the legs of course A and of W7; and ticks about a sixteenth leg (W17). No waypoint matters to a runner.
 use mathlib.Core.Path.{_≡_}
 use mathlib.Core.List.{List, [], _∷_}
-use Prim.Native.Nat.{ℕ}
+use Prim.Native.Nat.{ℕ, _*_}
 use lib.ListN.{replicate}
 use Rattle.sheet.specs.Answers.{refused}
-use Rattle.sheet.specs.declared.Refusal.the-variants.{Torn, Adrift, Start}
-use Rattle.runner.specs.Ticks.{runner, found}
+use Rattle.sheet.specs.Bytes.{sumBelow}
+use Rattle.sheet.specs.Carried.{stride}
+use Rattle.sheet.specs.Fields.{leg}
+use Rattle.sheet.specs.declared.Refusal.the-variants.{Torn, Past, Adrift, Start}
+use Rattle.runner.specs.Ticks.{runner, found, runnerAtTick}
 use Rattle.runner.specs.Steps.{onward}
 use Rattle.runner.specs.Backs.{backed, backward}
+use Rattle.runner.specs.Theorems.{Enclosed}
 
 -- free, legs 2, 2; and closed, legs 2, 2, 2, 2
 abbrev pub sheetA : List ℕ
@@ -32,3 +36,31 @@ pub record MovesTried : Type 0 where
   -- the step: one that moves, and one that has landed
   pub stepped-on : onward sheetA (runner 0 1) ≡ runner 1 0
   pub landed-kept : onward sheetA (runner 1 2) ≡ runner 1 2
+
+-- free, legs 1, 2, .., 18; and closed, legs 1, 2, .., 19
+abbrev pub sheet18 : List ℕ
+sheet18 =
+    0 ∷ 0 ∷ 1 ∷ 16 ∷ 1 ∷ 0 ∷ 0 ∷ 19 ∷ 0 ∷ 1 ∷ 0 ∷ 2 ∷ 0 ∷ 3 ∷ 0 ∷ 4 ∷ 0 ∷ 5 ∷ 0 ∷ 6 ∷ 0 ∷ 7 ∷ 0 ∷ 8 ∷ 0 ∷ 9 ∷ 0 ∷ 10 ∷ 0 ∷ 11 ∷ 0 ∷ 12 ∷ 0 ∷ 13 ∷ 0 ∷ 14 ∷ 0 ∷ 15 ∷ 0 ∷ 16 ∷ 0 ∷ 17 ∷ 0 ∷ 18
+    ∷ replicate 228 0
+
+abbrev pub sheet19 : List ℕ
+sheet19 =
+    0 ∷ 0 ∷ 1 ∷ 18 ∷ 1 ∷ 2 ∷ 0 ∷ 19 ∷ 0 ∷ 1 ∷ 0 ∷ 2 ∷ 0 ∷ 3 ∷ 0 ∷ 4 ∷ 0 ∷ 5 ∷ 0 ∷ 6 ∷ 0 ∷ 7 ∷ 0 ∷ 8 ∷ 0 ∷ 9 ∷ 0 ∷ 10 ∷ 0 ∷ 11 ∷ 0 ∷ 12 ∷ 0 ∷ 13 ∷ 0 ∷ 14 ∷ 0 ∷ 15 ∷ 0 ∷ 16 ∷ 0 ∷ 17 ∷ 0 ∷ 18 ∷ 0 ∷ 19
+    ∷ replicate 228 0
+
+pub record SearchTried : Type 0 where
+  -- the sum that is kept after sixteen legs; the tick before it, the tick itself, and the ticks about the next waypoint
+  pub kept : sumBelow (leg sheet18) (stride * 1) ≡ 136
+  pub before-it : runnerAtTick sheet18 135 ≡ found (runner 15 15)
+  pub at-it : runnerAtTick sheet18 136 ≡ found (runner 16 0)
+  pub leg-ends : runnerAtTick sheet18 152 ≡ found (runner 16 16)
+  pub next-starts : runnerAtTick sheet18 153 ≡ found (runner 17 0)
+  -- the last tick, and one too many
+  pub last : runnerAtTick sheet18 171 ≡ found (runner 17 18)
+  pub past : runnerAtTick sheet18 172 ≡ refused Past
+  -- the sums enclose the tick 136 on leg 16, and not on the leg that ends there
+  pub enclosed : Enclosed sheet18 136 16
+  pub not-enclosed : Enclosed sheet18 136 15 → ⊥
+  -- round: one lap, and one lap with the sixteen legs
+  pub round : runnerAtTick sheet19 190 ≡ found (runner 0 0)
+  pub round-at-it : runnerAtTick sheet19 326 ≡ found (runner 16 0)

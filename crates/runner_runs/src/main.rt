@@ -1,6 +1,8 @@
-// Runners on four small sheets, a line to a case: the runner at each tick up to P + 1, steps three times round the closed courses and past the end of the
+// Runners on six sheets, a line to a case: the runner at each tick up to P + 1, steps three times round the closed courses and past the end of the
 // open ones and as many backs and more, the last of the unsigned 64-bit ticks, runners that are adrift, have landed or are at the start, and a sheet that is torn.
 // Each step and each back is made on a lent record.
+ghost use Prim.Native.Nat.{_≤_};
+ghost use lib.ListN.{length};
 use answers::Outcome;
 use libc::STDOUT_FILENO;
 use runner::Runner;
@@ -51,9 +53,9 @@ fn show_tick(name: &[u8], s: &[u8], tick: u64) {
     print_answer(runner_at_tick(s, tick));
 }
 
-// The first ticks of a course.
-fn show_ticks(name: &[u8], s: &[u8], count: u64) {
-    for tick in 0..count {
+// Ticks of a course from one on, up to another.
+fn show_ticks(name: &[u8], s: &[u8], from: u64, till: u64) {
+    for tick in from..till {
         show_tick(name, s, tick);
     }
 }
@@ -111,7 +113,7 @@ fn run_free() {
     s[7] = 3;
     s[9] = 2;
     s[11] = 3;
-    show_ticks(b"free", &s, 7);
+    show_ticks(b"free", &s, 0, 7);
     show_steps(b"free", &s, 8, 7);
     show_move(b"free", &s, true, 0, 2);
     show_move(b"free", &s, true, 1, 4);
@@ -134,7 +136,7 @@ fn run_held() {
     s[5] = 1;
     s[7] = 2;
     s[9] = 4;
-    show_ticks(b"held", &s, 6);
+    show_ticks(b"held", &s, 0, 6);
     show_tick(b"held", &s, LAST);
     show_steps(b"held", &s, 7, 6);
 }
@@ -150,7 +152,7 @@ fn run_even() {
     s[11] = 2;
     s[13] = 2;
     s[15] = 2;
-    show_ticks(b"even", &s, 10);
+    show_ticks(b"even", &s, 0, 10);
     show_tick(b"even", &s, LAST);
     show_steps(b"even", &s, 25, 27);
     show_move(b"even", &s, true, 3, 2);
@@ -170,9 +172,47 @@ fn run_mixed() {
     s[9] = 1;
     s[11] = 3;
     s[13] = 2;
-    show_ticks(b"mixed", &s, 8);
+    show_ticks(b"mixed", &s, 0, 8);
     show_tick(b"mixed", &s, LAST);
     show_steps(b"mixed", &s, 19, 21);
+}
+
+// The legs 1, 2, .., as many as are asked for.
+fn put_rising(s: &mut [u8], legs: usize)
+    requires { ⌜ (legs ≤ 19) × (46 ≤ length (now s)) ⌝ }
+{
+    let mut h = 0;
+    while h < legs {
+        h = h + 1;
+        s[7 + 2 * h] = h as u8;
+    }
+}
+
+// Rising legs, free: 18 of them, with a kept sum at leg 16 (W17).
+fn run_rising() {
+    let mut s = [0u8; 272];
+    put_rising(&mut s, 18);
+    s[2] = 1;
+    s[3] = 16;
+    s[4] = 1;
+    s[7] = 19;
+    show_ticks(b"rising", &s, 134, 138);
+    show_ticks(b"rising", &s, 152, 154);
+    show_ticks(b"rising", &s, 170, 173);
+}
+
+// Closed: with one leg more, and round.
+fn run_rising_round() {
+    let mut s = [0u8; 274];
+    put_rising(&mut s, 19);
+    s[2] = 1;
+    s[3] = 18;
+    s[4] = 1;
+    s[5] = 2;
+    s[7] = 19;
+    show_ticks(b"rising, closed", &s, 189, 192);
+    show_ticks(b"rising, closed", &s, 325, 327);
+    show_tick(b"rising, closed", &s, LAST);
 }
 
 fn main() {
@@ -180,4 +220,6 @@ fn main() {
     run_held();
     run_even();
     run_mixed();
+    run_rising();
+    run_rising_round();
 }

@@ -5,10 +5,10 @@ use Rattle.runner_runs.proofs.show_ticks.Statement.{statement}
 use Rattle.runner_runs.proofs.show_ticks.Tie as tie
 
 abbrev Inv-loop : tie.InvT-loop
-Inv-loop name s count tick₀ tick = tick ≤ count
+Inv-loop name s from till tick₀ tick = from ≤ tick
 
 abbrev μ-loop : tie.MeasureT-loop
-μ-loop name s count tick₀ tick = count - tick
+μ-loop name s from till tick₀ tick = till - tick
 
 loop-holds : tie.Need-loop-holds Inv-loop μ-loop
 loop-holds c = search needs
