@@ -154,13 +154,13 @@ static uint64_t find_tick(const struct course *c, uint64_t tick, uint64_t *leg, 
         return STATION_PAST;
     uint64_t start = 0;
     for (uint64_t i = 0; i < c->leg_count; i++) {
-        uint64_t h = leg_at(c, i);
-        if (tick < start + h) {
+        uint64_t end = start + leg_at(c, i);
+        if (tick < end) {
             *leg = i;
             *offset = tick - start;
             return STATION_DONE;
         }
-        start += h;
+        start = end;
     }
     *leg = c->leg_count - 1;
     *offset = leg_at(c, c->leg_count - 1);

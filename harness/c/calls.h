@@ -1,13 +1,18 @@
 /* The nine calls of include/station.h over ten parts, which base.c and careful.c write each in its own way. The file that includes this
- * one says by NAME what its calls are called. ROOM and NO_RUNNER are the answers where a lent slice is too short, from src/room.rs;
- * nothing is written into it then. */
+ * one says by NAME what its calls are called; by KEPT it may say what it keeps of a course beside its fields. ROOM and NO_RUNNER are the
+ * answers where a lent slice is too short, from src/room.rs; nothing is written into it then. */
 #include "station.h"
 
 #include <string.h>
 
+#ifndef KEPT
+#define KEPT
+#endif
+
 struct course {
     uint64_t kind, n, leg_count, ticks;
     const uint8_t *legs, *points, *slopes;
+    KEPT
 };
 
 /* Tests 1 to 8; fills the course in where none applies. */

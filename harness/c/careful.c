@@ -1,13 +1,16 @@
 /* The calls in C written with care for speed, the algorithm unchanged: byte loads that merge into one, stores of a whole number with its
  * bytes swapped, ranges asked by one unsigned comparison or by a few bits of many numbers and gathered without a branch, a row's factors
  * worked out once for the three axes, the number just set carried along as the next row's left neighbour, rounding without a branch. An
- * axis at a time, each row with its one division; laying out ends early after a pass that changed nothing. Compiled with gcc -O3, twice:
- * with HALF_FIRST it rounds in another way, and its calls have names of their own. */
+ * axis at a time, each row with its one division; laying out ends early after a pass that changed nothing. Reading adds legs by four in a
+ * word and keeps their sum at every sixteenth leg, and a tick's leg is looked for among these sums and then from the last that fits (P7). No
+ * vector types. Compiled with gcc -O3, twice: with HALF_FIRST it rounds in another way, and its calls have names of their own. */
 #ifdef HALF_FIRST
 #define NAME(call) half_first_##call
 #else
 #define NAME(call) careful_##call
 #endif
+/* sums[b] is the sum of the first 16 * b legs, for each b with so many legs; the others are not set */
+#define KEPT uint32_t sums[33];
 #include "calls.h"
 
 #include <string.h>
@@ -32,6 +35,42 @@ static inline int64_t value_at(const struct course *c, uint64_t i, uint64_t axis
     return (int32_t)be32(c->points + 12 * i + 4 * axis);
 }
 
+/* Four legs in a word, sixteen bits each. */
+static inline uint64_t four_legs(const uint8_t *p)
+{
+    uint64_t legs;
+    memcpy(&legs, p, sizeof legs);
+    return (legs & 0x00ff00ff00ff00ff) << 8 | (legs >> 8 & 0x00ff00ff00ff00ff);
+}
+
+/* Test 6 of the legs: whether it applies. If not, their sum is in the course, and so are the kept ones. A leg with one taken off has none of
+ * its upper eight bits if it is within its limits; sixteen such legs have a sum of 13 bits, which a product gathers in the highest of four. */
+static inline int add_legs(struct course *c)
+{
+    const uint8_t *p = c->legs, *end = c->points;
+    const uint64_t ones = 0x0001000100010001;
+    uint64_t many = 0;
+    uint32_t ticks = 0, bits = 0, *kept = c->sums;
+    for (; end - p >= 32; p += 32) {
+        uint64_t four = 0;
+        for (int i = 0; i < 32; i += 8) {
+            uint64_t legs = four_legs(p + i);
+            four += legs;
+            many |= legs - ones;
+        }
+        *kept++ = ticks;
+        ticks += (uint32_t)(four * ones >> 48);
+    }
+    *kept = ticks;
+    for (; p < end; p += 2) {
+        uint32_t leg = be16(p);
+        ticks += leg;
+        bits |= leg - 1;
+    }
+    c->ticks = ticks;
+    return (many & 0xff00ff00ff00ff00) != 0 || bits > 255;
+}
+
 static uint64_t read_course(const uint8_t *s, size_t length, struct course *c)
 {
     if (length < 8 || be32(s) != length)
@@ -47,28 +86,27 @@ static uint64_t read_course(const uint8_t *s, size_t length, struct course *c)
     uint64_t leg_count = n - 1 + closed;
     if (length != 8 + 2 * leg_count + 12 * n + 24 * held)
         return STATION_SIZE;
-    const uint8_t *legs = s + 8, *points = legs + 2 * leg_count, *slopes = points + 12 * n;
-    uint32_t ticks = 0, bad = 0;
-    for (const uint8_t *p = legs; p < points; p += 2) {
-        uint32_t leg = be16(p);
-        ticks += leg;
-        bad |= leg - 1 > 255;
-    }
-    if (bad)
+    c->kind = kind;
+    c->n = n;
+    c->leg_count = leg_count;
+    c->legs = s + 8;
+    c->points = c->legs + 2 * leg_count;
+    c->slopes = c->points + 12 * n;
+    if (add_legs(c))
         return STATION_LEG;
-    for (const uint8_t *p = points; p < slopes; p += 12) {
-        bad |= be32(p) + 1000000 > 2000000;
-        bad |= be32(p + 4) + 1000000 > 2000000;
-        bad |= be32(p + 8) + 50000 > 170000;
+    /* the sign's bit stays set while no number is over its limit */
+    uint64_t inside = (uint64_t)1 << 63;
+    for (const uint8_t *p = c->points, *end = c->slopes; p < end; p += 12) {
+        inside &= (uint64_t)(be32(p) + 1000000) - 2000001;
+        inside &= (uint64_t)(be32(p + 4) + 1000000) - 2000001;
+        inside &= (uint64_t)(be32(p + 8) + 50000) - 170001;
     }
-    if (bad)
+    if (!inside)
         return STATION_REACH;
-    for (const uint8_t *p = slopes; p < s + length; p += 4)
+    uint32_t bad = 0;
+    for (const uint8_t *p = c->slopes; p < s + length; p += 4)
         bad |= be32(p) + 5000 > 10000;
-    if (bad)
-        return STATION_SLOPE;
-    *c = (struct course){kind, n, leg_count, ticks, legs, points, slopes};
-    return STATION_DONE;
+    return bad ? STATION_SLOPE : STATION_DONE;
 }
 
 /* L4: n / d for an even d > 0. */
@@ -175,16 +213,19 @@ static uint64_t find_tick(const struct course *c, uint64_t tick, uint64_t *leg, 
         tick = tick < c->ticks ? tick : tick % c->ticks;
     else if (tick > c->ticks)
         return STATION_PAST;
-    /* an open course's last tick stays on the last leg */
-    const uint8_t *p = c->legs, *last = p + 2 * (c->leg_count - 1);
-    uint64_t h = be16(p);
-    while (tick >= h && p < last) {
-        tick -= h;
-        p += 2;
-        h = be16(p);
+    /* the last sixteenth leg that starts at the tick or before it, then from there the last leg that does */
+    uint64_t last = c->leg_count - 1, sixteens = last / 16, b = 0;
+    while (b < sixteens && tick >= c->sums[b + 1])
+        b++;
+    uint64_t i = 16 * b, start = c->sums[b];
+    for (; i < last; i++) {
+        uint64_t end = start + leg_length(c, i);
+        if (tick < end)
+            break;
+        start = end;
     }
-    *leg = (uint64_t)(p - c->legs) / 2;
-    *offset = tick;
+    *leg = i;
+    *offset = tick - start;
     return STATION_DONE;
 }
 

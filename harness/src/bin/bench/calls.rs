@@ -1,0 +1,131 @@
+//! The calls that the benchmark times, each as work on the sheets of a form.
+
+use crate::forms::Form;
+use harness::boundary::Calls;
+use harness::model::{self, Lists};
+use std::hint::black_box;
+
+/// Something to time; it does its work once for the k-th sheet.
+pub type Work<'a> = Box<dyn FnMut(usize) + 'a>;
+
+/// A tick of a course; laps on, it is reduced before its leg is looked for (P4).
+#[derive(Clone, Copy)]
+pub enum At {
+    First,
+    Middle,
+    Last,
+    LapsOn,
+}
+
+impl At {
+    pub fn name(self) -> &'static str {
+        match self {
+            At::First => "the first tick",
+            At::Middle => "a middle tick",
+            At::Last => "the last tick",
+            At::LapsOn => "a tick five laps on",
+        }
+    }
+
+    /// The tick on the k-th sheet.
+    pub fn tick(self, form: &Form, k: usize) -> u64 {
+        match self {
+            At::First => 0,
+            At::Middle => form.ticks[k] / 2,
+            At::Last => form.last[k],
+            At::LapsOn => 5 * form.ticks[k] + form.ticks[k] / 2,
+        }
+    }
+}
+
+#[derive(Clone, Copy)]
+pub enum Call {
+    Read,
+    LayOut,
+    PlaceAt(At),
+    PlaceOfRunner,
+    RunnerAt(At),
+    Step,
+    Back,
+    Write,
+    Join,
+}
+
+impl Call {
+    pub fn work<'a>(self, calls: &'a Calls, form: &'a Form) -> Work<'a> {
+        let sheet = |k: usize| (form.sheets[k].as_ptr(), form.sheets[k].len());
+        let (mut numbers, mut room) = ([0_u64; 3], vec![0_i64; 3 * form.n]);
+        // SAFETY (all calls): pointers and lengths of live slices that do not overlap.
+        match self {
+            Call::Read => Box::new(move |k| {
+                let (s, n) = sheet(k);
+                black_box(unsafe { (calls.read)(s, n, numbers.as_mut_ptr(), 3) });
+            }),
+            Call::LayOut => Box::new(move |k| {
+                let (s, n) = sheet(k);
+                black_box(unsafe { (calls.lay_out)(s, n, room.as_mut_ptr(), room.len()) });
+            }),
+            Call::RunnerAt(at) => {
+                let ticks = ticks(form, at);
+                Box::new(move |k| {
+                    let (s, n) = sheet(k);
+                    black_box(unsafe { (calls.runner_at_tick)(s, n, ticks[k], numbers.as_mut_ptr(), 2) });
+                })
+            }
+            Call::Step | Call::Back => {
+                let call = if matches!(self, Call::Step) { calls.step } else { calls.back };
+                Box::new(move |k| {
+                    let (s, n) = sheet(k);
+                    let mut runner = form.runners[k];
+                    black_box(unsafe { call(s, n, runner.as_mut_ptr(), 2) });
+                })
+            }
+            Call::PlaceAt(_) | Call::PlaceOfRunner => self.placing(calls, form),
+            Call::Write | Call::Join => self.making(calls, form),
+        }
+    }
+
+    /// The calls that answer a place.
+    fn placing<'a>(self, calls: &'a Calls, form: &'a Form) -> Work<'a> {
+        let sheet = |k: usize| (form.sheets[k].as_ptr(), form.sheets[k].len());
+        let list = |k: usize| (form.lists[k].as_ptr(), form.lists[k].len());
+        let mut place = [0_i64; 3];
+        // SAFETY (both calls): pointers and lengths of live slices that do not overlap.
+        if let Call::PlaceAt(at) = self {
+            let ticks = ticks(form, at);
+            return Box::new(move |k| {
+                let ((s, n), (l, m)) = (sheet(k), list(k));
+                black_box(unsafe { (calls.place_at_tick)(s, n, l, m, ticks[k], place.as_mut_ptr(), 3) });
+            });
+        }
+        Box::new(move |k| {
+            let ((s, n), (l, m)) = (sheet(k), list(k));
+            let [leg, offset] = form.runners[k];
+            black_box(unsafe { (calls.place_of_runner)(s, n, l, m, leg, offset, place.as_mut_ptr(), 3) });
+        })
+    }
+
+    /// The calls that make a sheet.
+    fn making<'a>(self, calls: &'a Calls, form: &'a Form) -> Work<'a> {
+        let (mut page, mut length) = (vec![0_u8; form.sheets[0].len()], [0]);
+        if let Call::Join = self {
+            return Box::new(move |k| {
+                let [first, second] = &form.halves[k];
+                black_box(calls.join_slices(first, second, &mut page, &mut length));
+            });
+        }
+        Box::new(move |k| {
+            let Lists { kind, legs, waypoints, slopes } = &form.sources[k];
+            black_box(calls.write_slices(*kind, legs, waypoints, slopes, &mut page, &mut length));
+        })
+    }
+}
+
+/// The tick on each sheet of a form, which has to have it: a refusal would be quick.
+fn ticks(form: &Form, at: At) -> Vec<u64> {
+    let ticks: Vec<u64> = (0..form.sheets.len()).map(|k| at.tick(form, k)).collect();
+    for (sheet, tick) in form.sheets.iter().zip(&ticks) {
+        model::runner_at_tick(sheet, *tick).expect("a tick of the course");
+    }
+    ticks
+}

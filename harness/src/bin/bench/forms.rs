@@ -1,0 +1,102 @@
+//! The sheets that the benchmark's calls are timed on, eight of each form, with all that the calls take besides.
+
+use harness::model::{self, Kind, Lists};
+use harness::pairs;
+use harness::random::Random;
+use harness::sheets::{self, Draft, CLOSED, FREE};
+
+/// Sheets of one form with their bend numbers.
+pub struct Form {
+    pub name: String,
+    pub n: usize,
+    pub sheets: Vec<Vec<u8>>,
+    /// What the sheets are written from.
+    pub sources: Vec<Lists>,
+    /// What, joined, has the waypoints of each sheet: two free courses, cut at its middle waypoint.
+    pub halves: Vec<[Vec<u8>; 2]>,
+    pub lists: Vec<Vec<i64>>,
+    /// P.
+    pub ticks: Vec<u64>,
+    /// The last tick: P on an open course, P - 1 on a closed one.
+    pub last: Vec<u64>,
+    /// A runner halfway round.
+    pub runners: Vec<[u64; 2]>,
+    /// Passes that laying out makes on the three axes together, on average over the sheets: to the first that changes nothing, or 40.
+    pub passes: f64,
+}
+
+impl Form {
+    fn new(name: &str, n: usize, make: impl FnMut() -> Draft) -> Form {
+        let drafts: Vec<Draft> = std::iter::repeat_with(make).take(8).collect();
+        let mut form = Form {
+            name: format!("N = {n}, {name}"),
+            n,
+            sheets: drafts.iter().map(Draft::bytes).collect(),
+            sources: vec![],
+            halves: drafts.iter().map(|draft| pairs::cut(draft, n / 2).map(|half| half.bytes())).collect(),
+            lists: vec![],
+            ticks: vec![],
+            last: vec![],
+            runners: vec![],
+            passes: 0.0,
+        };
+        for k in 0..drafts.len() {
+            form.fill(k);
+        }
+        for [first, second] in &form.halves {
+            model::join(first, second, &mut vec![0; form.sheets[0].len()]).expect("two that can be joined");
+        }
+        form
+    }
+
+    /// What belongs to the k-th sheet, by the model.
+    fn fill(&mut self, k: usize) {
+        let (sheet, n) = (&self.sheets[k], self.n);
+        let course = model::read(sheet).expect("an accepted sheet");
+        let mut list = vec![0; 3 * n];
+        model::lay_out(sheet, &mut list).expect("an accepted sheet");
+        self.sources.push(course.lists());
+        self.lists.push(list);
+        let ticks = course.ticks() as u64;
+        self.ticks.push(ticks);
+        self.last.push(ticks - u64::from(course.kind == Kind::Closed));
+        let (leg, offset) = model::runner_at_tick(sheet, ticks / 2).expect("a tick of the course");
+        self.runners.push([leg, offset]);
+        for axis in 0..3 {
+            let rows = course.rows(axis);
+            let mut z = vec![0; n];
+            let unchanged = (1..=40).find(|_| !course.pass(&rows, &mut z));
+            self.passes += f64::from(unchanged.unwrap_or(40)) / 8.0;
+        }
+    }
+}
+
+/// Values spread over the whole range of each axis.
+fn spread(random: &mut Random, kind: u8, n: usize, leg: impl Fn(&mut Random) -> u16) -> Draft {
+    let l = if kind == CLOSED { n } else { n - 1 };
+    let legs: Vec<u16> = (0..l).map(|_| leg(random)).collect();
+    let mut draft = Draft::of(kind, &legs, &vec![0; n], None);
+    for point in &mut draft.points {
+        *point = [0, 1, 2].map(|axis| sheets::within(random, axis));
+    }
+    draft
+}
+
+/// The sheets: open ones of N = 64 and 512 with legs alike; closed ones of N = 3; for laying out pairs of N = 64 and 512 with legs alike,
+/// with mixed ones, and the slowest.
+pub fn forms(seed: u64) -> ([Form; 2], Form, Vec<[Form; 2]>) {
+    let mut random = Random::new(seed);
+
+    let mut form = |name: &str, n: usize| {
+        Form::new(name, n, || match name {
+            "alike" => spread(&mut random, CLOSED, n, |_| 10),
+            "mixed" => spread(&mut random, CLOSED, n, |random| random.between(1, 256) as u16),
+            "open" => spread(&mut random, FREE, n, |_| 10),
+            _ => sheets::chain(&mut random, n, 60),
+        })
+    };
+    let open = [form("open", 64), form("open", 512)];
+    let three = form("mixed", 3);
+    let laid = ["alike", "mixed", "worst"].map(|name| [form(name, 64), form(name, 512)]).into();
+    (open, three, laid)
+}
