@@ -1,5 +1,5 @@
-/* What include/station.h says, for src/header.rs: each enumerator by its name without STATION_, the words, and the functions over structs. A
- * new enumerator of the header belongs in the list; evidence fails while it is not there. */
+/* What include/station.h says, for src/header.rs: each enumerator by its name without STATION_, the words, the functions over structs, and
+ * some figures by them. A new enumerator of the header belongs in the list; evidence fails while it is not there. */
 #include "station.h"
 
 struct entry {
@@ -131,4 +131,33 @@ uint64_t structs_join(const uint8_t *first, size_t a, const uint8_t *second, siz
     uint64_t answer = station_join_into(first, a, second, b, sheet, n, &length);
     out[0] = length;
     return answer;
+}
+
+/* W17 as a C program meets it: the course is written from its lists, then the runners at ticks around its first sixteen legs. */
+struct figure {
+    uint64_t tick, answer, leg, offset;
+};
+
+static const struct figure figures[] = {
+    {135, STATION_DONE, 15, 15}, {136, STATION_DONE, 16, 0},  {152, STATION_DONE, 16, 16},
+    {153, STATION_DONE, 17, 0},  {171, STATION_DONE, 17, 18}, {172, STATION_PAST, 77, 77},
+};
+
+/* Whether the i-th figure is met: 1 or 0, and -1 past the last. */
+int header_figure(size_t i)
+{
+    if (i >= sizeof figures / sizeof figures[0])
+        return -1;
+    uint64_t legs[18];
+    int64_t waypoints[57] = {0};
+    for (uint64_t leg = 0; leg < 18; leg++)
+        legs[leg] = leg + 1;
+    struct station_lists lists = {STATION_FREE, legs, 18, waypoints, 57, 0, 0};
+    uint8_t sheet[STATION_LONGEST_SHEET];
+    size_t length = 0;
+    if (station_write_lists(&lists, sheet, sizeof sheet, &length) != STATION_DONE)
+        return 0;
+    struct station_runner runner = {77, 77};
+    uint64_t answer = station_runner_at_tick_into(sheet, length, figures[i].tick, &runner);
+    return answer == figures[i].answer && runner.leg == figures[i].leg && runner.offset == figures[i].offset;
 }

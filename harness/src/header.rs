@@ -15,6 +15,7 @@ struct Entry {
 extern "C" {
     fn header_entry(i: usize) -> *const Entry;
     fn header_word(number: u64) -> *const c_char;
+    fn header_figure(i: usize) -> i32;
 }
 
 /// A C string as ours; none for a null pointer.
@@ -47,4 +48,10 @@ pub fn written() -> Vec<String> {
 pub fn word(number: u64) -> Option<String> {
     // SAFETY: null or a string of the program.
     unsafe { owned(header_word(number)) }
+}
+
+/// Of each figure of W17 that c/header.c asks for by the functions over structs, whether it is met.
+pub fn figures() -> Vec<bool> {
+    // SAFETY: the function has memory of its own.
+    (0..).map(|i| unsafe { header_figure(i) }).take_while(|met| *met >= 0).map(|met| met == 1).collect()
 }

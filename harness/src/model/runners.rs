@@ -3,7 +3,8 @@
 use super::{read, Course, ADRIFT, LANDED, PAST, START};
 
 impl Course {
-    /// P3, P4: the leg and offset that a tick names; none for a tick that the course has not.
+    /// P3, P4: the leg and offset that a tick names; none for a tick that the course has not. The leg is the last one that starts at the
+    /// tick or before it, looked for from the course's end, where P stands: each leg starts its own length before the next.
     pub fn runner(&self, tick: u64) -> Option<(usize, i128)> {
         let ticks = self.ticks();
         let tick = i128::from(tick);
@@ -11,16 +12,11 @@ impl Course {
         if tick > ticks {
             return None;
         }
-        let mut start = 0;
-        for (leg, h) in self.legs.iter().enumerate() {
-            if tick < start + h {
-                return Some((leg, tick - start));
-            }
-            start += h;
-        }
-        // the full last leg
-        let last = self.legs.len() - 1;
-        Some((last, self.legs[last]))
+        let mut start = ticks;
+        self.legs.iter().enumerate().rev().find_map(|(leg, h)| {
+            start -= h;
+            (start <= tick).then(|| (leg, tick - start))
+        })
     }
 
     /// Whether N11 does not apply.

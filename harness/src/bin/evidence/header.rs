@@ -1,5 +1,5 @@
-//! include/station.h against the model: every enumerator as the compiler has it, none left out, and the words. (Its functions over structs
-//! are compared as the calls are, by compare.rs.)
+//! include/station.h against the model: every enumerator as the compiler has it, none left out, and the words; and W17 by a C file that
+//! includes it. (Its functions over structs are compared as the calls are, by compare.rs.)
 
 use crate::compare::Comparison;
 use crate::parts::Part;
@@ -29,7 +29,18 @@ pub fn run(comparison: &mut Comparison) {
             .require(known, || format!("STATION_{name} of the header is not compared (harness/c/header.c, src/bin/evidence/header.rs)"));
     }
     let words = words(comparison);
-    println!("header: {} numbers compared, {words} words", wanted.len());
+    let figures = figures(comparison);
+    println!("header: {} numbers compared, {words} words, {figures} figures of W17 by the functions over structs", wanted.len());
+}
+
+/// W17 by a C program: how many figures.
+fn figures(comparison: &mut Comparison) -> usize {
+    let figures = header::figures();
+    comparison.require(!figures.is_empty(), || "the C file has no figure of W17".to_string());
+    for (i, met) in figures.iter().enumerate() {
+        comparison.require(*met, || format!("figure {i} of W17 in harness/c/header.c is not met"));
+    }
+    figures.len()
 }
 
 /// The words of all numbers, of 0 and of numbers that nothing has; how many.

@@ -12,6 +12,7 @@ mod joins;
 mod mirrors;
 mod parts;
 mod sheets;
+mod ticks;
 mod walks;
 mod worked;
 mod wrapper;
@@ -69,6 +70,7 @@ fn main() {
     sheets::run(&options, &mut comparison);
     let elimination = distance::by_elimination(&options, &mut comparison);
     let exact = distance::by_exact_spline(&options, &mut comparison);
+    ticks::run(&options, &mut comparison);
     walks::run(&options, &mut comparison);
     years::run(&options, &mut comparison);
 

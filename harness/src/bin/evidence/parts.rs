@@ -38,6 +38,8 @@ pub enum Part {
     ExactBends,
     /// Places against the exact spline.
     ExactPlaces,
+    /// Runners and some places at every leg of courses with 1 to 512 legs (P3, P4, P7).
+    Ticks,
     /// Places and runners at far ticks.
     FarTicks,
     /// Steps against the runner at the tick.
@@ -53,7 +55,7 @@ pub enum Part {
 }
 
 /// The parts' names, in the order above.
-pub const NAMES: [&str; 23] = [
+pub const NAMES: [&str; 24] = [
     "worked",
     "header",
     "calls",
@@ -71,6 +73,7 @@ pub const NAMES: [&str; 23] = [
     "spline",
     "exact-bends",
     "exact-places",
+    "ticks",
     "far-ticks",
     "steps",
     "backs",

@@ -133,6 +133,7 @@ pub fn run(comparison: &mut Comparison) {
     writing(comparison);
     going_back(comparison);
     joining(comparison);
+    around_sixteen_legs(comparison);
     println!("worked courses: {} comparisons with the figures of group W", comparison.tally.compared(Part::Worked));
 }
 
@@ -268,4 +269,24 @@ fn most_joined(comparison: &mut Comparison) {
     // 18 before 14, 17 before 18
     joined(comparison, &first, &second, 2, "18 -1 eeee");
     joined(comparison, &second, &first, 2, "17 -1 eeee");
+}
+
+/// W17: runners around the sum of the first sixteen legs, on legs 1 to 18 and on the same closed by a leg of 19.
+fn around_sixteen_legs(comparison: &mut Comparison) {
+    let course = |kind, last: u16| Draft::of(kind, &(1..=last).collect::<Vec<u16>>(), &[0; 19], None).bytes();
+    let (open, closed) = (course(FREE, 18), course(CLOSED, 19));
+    let before = Lent { words: vec![77; 3], ..Lent::default() };
+    let figures: [(&[u8], u64, &str); 8] = [
+        (&open, 135, "0 [15, 15]"),
+        (&open, 136, "0 [16, 0]"),
+        (&open, 152, "0 [16, 16]"),
+        (&open, 153, "0 [17, 0]"),
+        (&open, 171, "0 [17, 18]"),
+        (&open, 172, "10 [77, 77]"),
+        (&closed, 190, "0 [0, 0]"),
+        (&closed, 326, "0 [16, 0]"),
+    ];
+    for (sheet, tick, wanted) in figures {
+        expect(comparison, &Call::RunnerAtTick { tick }, sheet, &before, wanted.to_string(), runner);
+    }
 }
