@@ -182,6 +182,7 @@ pub fn lay_out(sheet: &[u8], list: &mut [i64]) -> Result<(), Refusal> {
 }
 
 /// The place at a tick, by a list that was laid out for this sheet; a closed course has a place at any tick (P4). Tests 1-10 and 12 (A4).
+/// It takes about the same time at every tick of a course, and that time goes with N, since each call tests the whole sheet (P7).
 ///
 /// ```
 /// use station::{COURSE_A, Place, Refusal};
@@ -219,7 +220,8 @@ pub fn place_of_runner(sheet: &[u8], list: &[i64], runner: Runner) -> Result<Pla
     Ok(out.into())
 }
 
-/// The runner that stands at a tick. Tests 1-8 and 10 (A6).
+/// The runner that stands at a tick. Tests 1-8 and 10 (A6). It takes about the same time at every tick of a course, and that time goes with
+/// N, since each call tests the whole sheet (P7).
 ///
 /// ```
 /// use station::{COURSE_A, Runner};
@@ -227,6 +229,28 @@ pub fn place_of_runner(sheet: &[u8], list: &[i64], runner: Runner) -> Result<Pla
 /// // at tick 2 the second leg starts; the last tick is the full second leg (P3)
 /// assert_eq!(station::runner_at_tick(&COURSE_A, 2)?, Runner { leg: 1, offset: 0 });
 /// assert_eq!(station::runner_at_tick(&COURSE_A, 4)?, Runner { leg: 1, offset: 2 });
+/// # Ok::<(), station::Refusal>(())
+/// ```
+///
+/// On a course with legs of 1, 2, .. 18 ticks, and on the same closed by a leg of 19 (W17):
+///
+/// ```
+/// use station::{EndKind, Refusal, Runner};
+///
+/// let legs: Vec<u64> = (1..=19).collect();
+/// let (mut open, mut closed) = ([0; 272], [0; 274]);
+/// station::write(EndKind::Free, &legs[..18], &[0; 57], &[], &mut open)?;
+/// station::write(EndKind::Closed, &legs, &[0; 57], &[], &mut closed)?;
+///
+/// // 136 is the sum of the first sixteen legs, 153 that of seventeen, 171 that of all eighteen
+/// for (tick, leg, offset) in [(135, 15, 15), (136, 16, 0), (152, 16, 16), (153, 17, 0), (171, 17, 18)] {
+///     assert_eq!(station::runner_at_tick(&open, tick)?, Runner { leg, offset });
+/// }
+/// assert_eq!(station::runner_at_tick(&open, 172), Err(Refusal::Past));
+///
+/// // a lap has 190 ticks
+/// assert_eq!(station::runner_at_tick(&closed, 190)?, Runner { leg: 0, offset: 0 });
+/// assert_eq!(station::runner_at_tick(&closed, 326)?, Runner { leg: 16, offset: 0 });
 /// # Ok::<(), station::Refusal>(())
 /// ```
 #[inline]
