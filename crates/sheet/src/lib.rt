@@ -32,7 +32,7 @@ pub const STRIDE: usize = 16;
 
 pub const SUMS: usize = 33;
 
-// The refusals, in the order of their numbers (N1 to N18).
+// The refusals, in the order of their numbers (N1 to N20).
 pub enum Refusal {
     Torn,
     Edition,
@@ -52,6 +52,8 @@ pub enum Refusal {
     Shut,
     Apart,
     Crowded,
+    Seats,
+    Turn,
 }
 
 // A2: reading's answer, the kind, N and P; or its refusal.

@@ -3,7 +3,7 @@ ghost use mathlib.Core.Path.{_≡_};
 ghost use Rattle.sheet.specs.Answers.{numberOf};
 use crate::Refusal;
 
-// N1 to N18.
+// N1 to N20.
 pub fn number_of(refusal: Refusal) -> u64
     ensures { λ r. ⌜ r ≡ numberOf refusal ⌝ }
 {
@@ -26,5 +26,7 @@ pub fn number_of(refusal: Refusal) -> u64
         Refusal::Shut => 16,
         Refusal::Apart => 17,
         Refusal::Crowded => 18,
+        Refusal::Seats => 19,
+        Refusal::Turn => 20,
     }
 }

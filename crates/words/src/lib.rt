@@ -37,6 +37,8 @@ pub fn put_refusal(out: &mut [u8], refusal: Refusal) -> usize
                  refused 15 start\n  \
                  refused 16 shut\n   \
                  refused 17 apart\n  \
-                 refused 18 crowded\n";
+                 refused 18 crowded\n\
+                 refused 19 seats\n  \
+                 refused 20 turn\n   ";
     put_row(rows, refusal, out)
 }
