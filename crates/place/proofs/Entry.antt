@@ -41,7 +41,7 @@ module _ {s : List ℕ} {k : EndKind} {n p : ℕ} (c : Course s k n p) (list : L
   is-points : n ≡ points s
   is-points = read-accepted s k n p (c .read) .2
 
-  short-is : (d : Bool) → b ≡ d → short s (length list) ≡ d
+  pub short-is : (d : Bool) → b ≡ d → short s (length list) ≡ d
   short-is d q = sym (e ∙ ap (λ m. ltb (length list) (3 * m)) is-points) ∙ q
 
   pub shelf-refused : b ≡ true → (x : Placed) (rest : Told) → Answers x (refused Shelf) → Answers x (behind s list rest)

@@ -1,4 +1,4 @@
-// The place by tick and the place by runner (group P).
+// The place by tick and the place by runner (group P). For the fleet too, which asks for the place of a seat.
 mod axis;
 mod bends;
 mod position;
@@ -10,7 +10,7 @@ ghost use Rattle.place.specs.Places.{toldPlaced, placeHeld, bendOrPlace,
 use answers::Outcome;
 use axis::place_on;
 use bends::bend_outside;
-use bends::is_short;
+pub use bends::is_short;
 use runner::Runner;
 use sheet::Reading;
 use sheet::Refusal;
@@ -28,7 +28,7 @@ pub struct Placed {
 }
 
 // A9: the number alone.
-fn refused(refusal: Refusal) -> Placed
+pub fn refused(refusal: Refusal) -> Placed
     ensures told { λ r. ⌜ toldPlaced r ≡ refused refusal ⌝ }
     ensures place { λ r. ⌜ r .place .at ≡ placeHeld (refused refusal) ⌝ }
 {
@@ -40,7 +40,7 @@ fn refused(refusal: Refusal) -> Placed
 }
 
 // The place of a runner to which 11 does not apply; 12 is left to test.
-fn place_at(s: &[u8], list: &[i64], points: usize, legs: usize, at: Runner) -> Placed
+pub fn place_at(s: &[u8], list: &[i64], points: usize, legs: usize, at: Runner) -> Placed
     requires { ⌜ Fitting (now s) (now list) points legs at ⌝ }
     ensures told { λ r. ⌜ toldPlaced r ≡ bendOrPlace (now (s .entry)) (now (list .entry)) at ⌝ }
     ensures place { λ r. ⌜ r .place .at ≡ placeHeld (bendOrPlace (now (s .entry)) (now (list .entry)) at) ⌝ }

@@ -16,7 +16,7 @@ use Rattle.sheet.specs.Fields.{kind, legs, leg, ticks}
 use Rattle.sheet.specs.Reading.{Accepted}
 use Rattle.sheet.specs.declared.Refusal.the-variants.{Landed}
 use Rattle.runner.specs.Ticks.{runner, found, isOpen, spotAt, tickOf}
-use Rattle.runner.specs.Steps.{landed, lastStep, moved, stepped, onward, repeated, after}
+use Rattle.runner.specs.Steps.{adrift, landed, lastStep, moved, stepped, onward, repeated, after}
 use Rattle.runner.specs.Theorems.{Stands, ClosedSteps, OpenSteps, StepBefore}
 use Rattle.runner.specs.declared.Runner.{Runner}
 use Rattle.runner.proofs.Walk.{by-order}
@@ -96,6 +96,14 @@ module _ (s : List ℕ) (a : Accepted s) where
       (λ full. by-order (suc (r .leg)) (legs s) next last (After s (suc (tickOf s r)))
       (λ more. stands-at s (suc (tickOf s r)) next (on-leg more (leg-low (suc (r .leg)) more)) (omega arith))
       (λ none. last-stands r (omega arith) (omega arith)))
+
+  -- and still fits the sheet
+  pub moved-fits : (r : Runner) → adrift s r ≡ false → landed s r ≡ false → adrift s (moved s r) ≡ false
+  moved-fits r e l = by-place (standing s r e)
+    where
+      by-place : Standing s r → adrift s (moved s r) ≡ false
+      by-place (on-leg p q) = moved-stands r p q .fits
+      by-place (at-end o p q) = absurd (true≢false (sym (landed-at-end s r o p q) ∙ l))
 
   -- before the end a step answers where the runner has moved on to ..
   pub step-done : (r : Runner) → r .leg < legs s → r .offset < leg s (r .leg) → stepped s r ≡ found (moved s r)

@@ -1,4 +1,4 @@
-// Ticks and runners (P3, P4, group M): the runner from a tick, the step, and back. For place and the C boundary.
+// Ticks and runners (P3, P4, group M): the runner from a tick, the step, and back. For place, the fleet and the C boundary.
 mod backs;
 mod records;
 mod steps;
@@ -10,6 +10,8 @@ pub use backs::backed;
 pub use records::RunnerOutcome;
 use sheet::Refusal;
 pub use steps::is_adrift;
+pub use steps::is_landed;
+pub use steps::moved;
 pub use steps::step;
 pub use steps::step_record;
 pub use steps::stepped;

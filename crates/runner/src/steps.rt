@@ -17,7 +17,7 @@ use sheet::Refusal;
 use sheet::leg_length;
 
 // N13: at the end of an open course.
-fn is_landed(s: &[u8], kind: EndKind, legs: usize, at: Runner) -> bool
+pub fn is_landed(s: &[u8], kind: EndKind, legs: usize, at: Runner) -> bool
     requires { ⌜ IsRead (now s) kind legs ⌝ }
     requires { ⌜ at .leg < legs ⌝ }
     ensures { λ r. ⌜ r ≡ landed (now (s .entry)) at ⌝ }
@@ -40,7 +40,7 @@ pub fn is_adrift(s: &[u8], kind: EndKind, legs: usize, at: Runner) -> bool
 }
 
 // One tick on: on its leg, to the start of the next one, to the end of an open course, or round to the first waypoint.
-fn moved(s: &[u8], kind: EndKind, legs: usize, at: Runner) -> Runner
+pub fn moved(s: &[u8], kind: EndKind, legs: usize, at: Runner) -> Runner
     requires { ⌜ IsRead (now s) kind legs ⌝ }
     requires { ⌜ adrift (now s) at ≡ false ⌝ }
     requires { ⌜ landed (now s) at ≡ false ⌝ }
