@@ -1,0 +1,2 @@
+-- The chain of a turn, for the proofs of serve and fly.
+pub mod Chain
