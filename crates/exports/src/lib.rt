@@ -1,11 +1,12 @@
 // The C boundary (include/station.h): the station's calls on numbers and slices. A slice is a pointer, then a length. Each function answers 0 or a number
-// of group N, and writes its results only when it answers 0 and the lent slice has room for them.
+// of group N, and writes its results only when it answers 0 (Q3's turn excepted) and the lent slice has room for them.
 use answers::Outcome;
 use ends::EndKind;
 use lists::Written;
 use place::Placed;
 use runner::Runner;
 use runner::RunnerAnswer;
+use seat::NextTurn;
 use sheet::Reading;
 use sheet::Refusal;
 use sheet::number_of;
@@ -24,6 +25,9 @@ ghost use Rattle.runner.specs.Ticks.{runner, toldRunner, runnerAtTick};
 ghost use Rattle.runner.specs.Steps.{stepped};
 ghost use Rattle.runner.specs.Backs.{backed};
 ghost use Rattle.place.specs.Places.{toldPlaced, placeAtTick, placeOfRunner};
+ghost use Rattle.seat.specs.Serving.{toldNext};
+ghost use Rattle.fleet.specs.Round.{roundAnswer, turnGiven};
+ghost use Rattle.fleet.specs.Numbers.{records, numbersAfter};
 ghost use Rattle.exports.specs.Written.{put, written, writtenUnsigned, noRunner, movedSlice};
 
 // S4: the number of a kind.
@@ -216,6 +220,38 @@ pub extern "C" fn station_back(sheet: &[u8], lent: &mut [u64]) -> u64
     let leg = lent[0];
     let offset = lent[1];
     tell_runner(runner::backed(sheet, Runner { leg, offset }), lent)
+}
+
+// The next turn into the slice, if there is one.
+fn tell_turn(next: NextTurn, out: &mut [u64])
+    ensures { λ _. ⌜ now (out .exit) ≡ put (toldNext next) (now (out .entry)) ⌝ }
+{
+    match next {
+        NextTurn::Seat(turn) => put_one(out, turn),
+        NextTurn::None => {}
+    }
+}
+
+// lent = leg, offset of each seat in turn, one of them moved on in place; place = north, east, up; next = the next turn, which a seat's own refusal has too
+#[no_mangle]
+pub extern "C" fn station_round(
+    sheet: &[u8],
+    list: &[i64],
+    lent: &mut [u64],
+    turn: u64,
+    place: &mut [i64],
+    next: &mut [u64],
+) -> u64
+    ensures answer { λ r. ⌜ r ≡ roundAnswer (now (sheet .entry)) (now (list .entry)) (records (now (lent .entry))) turn .number ⌝ }
+    ensures lent { λ r. ⌜ now (lent .exit) ≡ numbersAfter (now (sheet .entry)) (now (list .entry)) (now (lent .entry)) turn ⌝ }
+    ensures place { λ r. ⌜ now (place .exit) ≡ written (roundAnswer (now (sheet .entry)) (now (list .entry)) (records (now (lent .entry))) turn) (now (place .entry)) ⌝ }
+    ensures next { λ r. ⌜ now (next .exit) ≡ put (turnGiven (now (sheet .entry)) (now (list .entry)) (records (now (lent .entry))) turn) (now (next .entry)) ⌝ }
+{
+    let answer = fleet::round_numbers(sheet, list, lent, turn);
+    let given = answer.next;
+    tell_turn(given, next);
+    let placed = answer.placed;
+    tell_place(placed, place)
 }
 
 // The length into the slice, or the refusal's number.
