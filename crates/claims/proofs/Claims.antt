@@ -27,6 +27,10 @@ use Rattle.runner.proofs.Onward.{closed-steps, open-steps, step-before}
 use Rattle.runner.proofs.Backward.{back-behind, back-tick, back-ticks}
 use Rattle.runner.proofs.Restored.{back-after-step, step-after-back, backs-after-steps, steps-after-backs}
 use Rattle.runner.proofs.Worked.{moves-tried, search-tried}
+use Rattle.flights.proofs.Worked.{rounds-tried}
+use Rattle.flights.proofs.Once.{every-seat-once}
+use Rattle.flights.proofs.Apart.{others-kept, seats-apart}
+use Rattle.flights.proofs.Flown.{turns-move, served-near, flying-served}
 use Rattle.place.proofs.Waypoints.{tick-is-runner, leg-ends-met, waypoint-met-at-tick, waypoint-met-by-runner}
 use Rattle.station.proofs.Claim.{claim}
 use Rattle.station.proofs.Own.{own-laid}
@@ -42,7 +46,7 @@ use Rattle.lines.proofs.Room.{line-short}
 use Rattle.output.proofs.Answered.{accepted-output, every-tick}
 use Rattle.output.proofs.Worked.{course-a, leg-refused}
 use Rattle.claims.specs.Claims.{Claims}
-use Rattle.claims.proofs.Refused.{refusal-passed-on, refused-keeps-list, refused-keeps-record, refused-keeps-slice}
+use Rattle.claims.proofs.Refused.{refusal-passed-on, refused-keeps-list, refused-keeps-record, refused-keeps-fleet, refused-keeps-slice}
 
 pub claims : Claims
 claims = record {
@@ -52,6 +56,7 @@ claims = record {
     refusal-passed-on = refusal-passed-on;
     refused-keeps-list = refused-keeps-list;
     refused-keeps-record = refused-keeps-record;
+    refused-keeps-fleet = refused-keeps-fleet;
     refused-keeps-slice = refused-keeps-slice;
   };
   demand2 = record {
@@ -89,6 +94,10 @@ claims = record {
     written-again = written-again;
     joined-accepted = joined-accepted;
     joined-met = joined-met;
+    others-kept = others-kept;
+    seats-apart = seats-apart;
+    every-seat-once = every-seat-once;
+    turns-move = turns-move;
     accepted-output = accepted-output;
     every-tick = every-tick;
     line-one = line-one;
@@ -107,11 +116,14 @@ claims = record {
     most-tried = most-tried;
     mirror-tried = mirror-tried;
     search-tried = search-tried;
+    rounds-tried = rounds-tried;
     chord-not-near = chord-not-near;
   };
   demand3 = claim;
   own-laid = own-laid;
   joined-near = joined-near;
+  served-near = served-near;
+  flying-served = flying-served;
   theory = record {
     solvable = solvable;
     unique = unique;

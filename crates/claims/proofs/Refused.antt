@@ -1,19 +1,24 @@
 -- A refused call passes reading's number on and keeps what was lent: each call's definition begins with the reader's answer, and what it leaves asks its number.
 use mathlib.Core.Path.{sym, _∙_}
+use mathlib.Core.List.{[], _∷_}
 use lib.ListN.{length}
 use Rattle.lists.specs.Answer.{writeSheet}
 use Rattle.writer.specs.Writing.{writtenInto}
-use Rattle.answers.proofs.Guards.{read-on, number-keeps}
+use Rattle.answers.proofs.Guards.{read-on, number-keeps, refused-keeps}
+use Rattle.answers.specs.Answers.{done}
 use Rattle.join.specs.Joining.{joinSheets, joinedInto}
 use Rattle.layout.specs.Layout.{layOut, laidOut}
 use Rattle.runner.specs.Ticks.{runnerAtTick}
 use Rattle.runner.specs.Steps.{moved, stepped, onward}
 use Rattle.runner.specs.Backs.{movedBack, backed, backward}
 use Rattle.place.specs.Places.{placeAtTick, placeOfRunner}
-use Rattle.claims.specs.Refused.{RefusalPassedOn, RefusedKeepsList, RefusedKeepsRecord, RefusedKeepsSlice}
+use Rattle.seat.specs.Serving.{admitted, nextTurn, served, turnAfter}
+use Rattle.fleet.proofs.Lent.{fleet-kept}
+use Rattle.fleet.proofs.Pairs.{numbers-kept}
+use Rattle.claims.specs.Refused.{RefusalPassedOn, RefusedKeepsList, RefusedKeepsRecord, RefusedKeepsFleet, RefusedKeepsSlice}
 
 pub refusal-passed-on : RefusalPassedOn
-unfolding layOut placeAtTick placeOfRunner runnerAtTick stepped backed joinSheets
+unfolding layOut placeAtTick placeOfRunner runnerAtTick stepped backed served turnAfter joinSheets
 refusal-passed-on s q e = record {
   laying = λ room. rw e;
   by-tick = λ list t. rw e;
@@ -21,6 +26,7 @@ refusal-passed-on s q e = record {
   from-tick = λ t. rw e;
   step = λ r. rw e;
   back = λ r. rw e;
+  round = λ list fleet t. let k = length fleet in (rw e, refused-keeps (admitted s list k t done) (nextTurn k t ∷ []) [] q (rw e));
   join-first = λ t room. rw e;
   join-second = λ t room a. sym (read-on t a _) ∙ rw e;
 }
@@ -32,6 +38,9 @@ refused-keeps-list s list = number-keeps (layOut s (length list)) _ list
 pub refused-keeps-record : RefusedKeepsRecord
 unfolding onward backward
 refused-keeps-record s r = (number-keeps (stepped s r) (moved s r) r, number-keeps (backed s r) (movedBack s r) r)
+
+pub refused-keeps-fleet : RefusedKeepsFleet
+refused-keeps-fleet s list t = ((λ fleet. fleet-kept s list fleet t), (λ lent. numbers-kept s list lent t))
 
 pub refused-keeps-slice : RefusedKeepsSlice
 unfolding writtenInto joinedInto

@@ -15,6 +15,8 @@ use Rattle.layout.specs.Theorems.{CourseInBounds, LaidOutNear}
 use Rattle.runner.specs.Theorems.{TickStands, LegBySums, OneRunner, ClosedSteps, OpenSteps, StepBefore}
 use Rattle.runner.specs.Restored.{BackBehind, BackTick, BackTicks, BackAfterStep, StepAfterBack, BacksAfterSteps, StepsAfterBacks}
 use Rattle.runner.specs.Worked.{MovesTried, SearchTried}
+use Rattle.flights.specs.Theorems.{EverySeatOnce, OthersKept, SeatsApart, TurnsMove, ServedNear, FlyingServed}
+use Rattle.flights.specs.Worked.{RoundsTried}
 use Rattle.place.specs.Theorems.{LegEndsMet, WaypointMetAtTick, WaypointMetByRunner, TickIsRunner}
 use Rattle.station.specs.Claim.{Claim, OwnLaid}
 use Rattle.courses.specs.Starred.{StarredRight}
@@ -23,7 +25,7 @@ use Rattle.mirror.specs.Theorems.{PassesMirrored, BendsMirrored, PositionMirror
 use Rattle.mirror.specs.Worked.{MirrorTried}
 use Rattle.lines.specs.Theorems.{LineOne, LineMinus, LineShort}
 use Rattle.output.specs.Theorems.{EveryTick, AcceptedOutput, CourseA, LegRefused}
-use Rattle.claims.specs.Refused.{RefusalPassedOn, RefusedKeepsList, RefusedKeepsRecord, RefusedKeepsSlice}
+use Rattle.claims.specs.Refused.{RefusalPassedOn, RefusedKeepsList, RefusedKeepsRecord, RefusedKeepsFleet, RefusedKeepsSlice}
 
 -- D1: a bad input gets its number, and a refused call changes nothing. (That calls end and are safe is proved of every function, by the checker itself.)
 pub record Demand1 : Type 0 where
@@ -36,6 +38,7 @@ pub record Demand1 : Type 0 where
   -- A9
   pub refused-keeps-list : RefusedKeepsList
   pub refused-keeps-record : RefusedKeepsRecord
+  pub refused-keeps-fleet : RefusedKeepsFleet
   pub refused-keeps-slice : RefusedKeepsSlice
 
 -- D2: rules to the last digit, waypoints met, runners where the count says
@@ -98,6 +101,13 @@ pub record Demand2 : Type 0 where
   pub joined-accepted : JoinedAccepted
   -- J4
   pub joined-met : JoinedMet
+  -- Q4
+  pub others-kept : OthersKept
+  pub seats-apart : SeatsApart
+  -- Q5
+  pub every-seat-once : EverySeatOnce
+  -- Q6
+  pub turns-move : TurnsMove
   -- T2: the output of an accepted sheet, with a line for every tick
   pub accepted-output : AcceptedOutput
   pub every-tick : EveryTick
@@ -128,6 +138,8 @@ pub record Demand2 : Type 0 where
   pub mirror-tried : MirrorTried
   -- W17
   pub search-tried : SearchTried
+  -- W18
+  pub rounds-tried : RoundsTried
   -- K4, K8: zeros in place of bend numbers fail on tenfold A
   pub chord-not-near : ChordNotNear
 
@@ -161,4 +173,7 @@ pub record Claims : Type 0 where
   pub own-laid : OwnLaid
   -- J5: of joined sheets
   pub joined-near : JoinedNear
+  -- Q7: of a fleet's places
+  pub served-near : ServedNear
+  pub flying-served : FlyingServed
   pub theory : Theory

@@ -1,6 +1,6 @@
 -- What a refused call leaves behind, said of the definitions that the entry points' promises cite (A8, A9). For Claims.
 use mathlib.Core.Path.{_≡_}
-use mathlib.Core.List.{List}
+use mathlib.Core.List.{List, []}
 use Prim.Native.Nat.{ℕ}
 use lib.IntN.{ℤ}
 use lib.ListN.{length}
@@ -18,6 +18,8 @@ use Rattle.runner.specs.Steps.{stepped, onward}
 use Rattle.runner.specs.Backs.{backed, backward}
 use Rattle.runner.specs.declared.Runner.{Runner}
 use Rattle.place.specs.Places.{placeAtTick, placeOfRunner}
+use Rattle.fleet.specs.Round.{roundAnswer, turnGiven, fleetAfter}
+use Rattle.fleet.specs.Numbers.{records, numbersAfter}
 
 -- A8: where reading refuses the sheet, each call answers that refusal and nothing else
 pub record PassedOn (s : List ℕ) (q : Refusal) : Type 0 where
@@ -27,6 +29,7 @@ pub record PassedOn (s : List ℕ) (q : Refusal) : Type 0 where
   pub from-tick : (t : ℕ) → runnerAtTick s t ≡ refused q
   pub step : (r : Runner) → stepped s r ≡ refused q
   pub back : (r : Runner) → backed s r ≡ refused q
+  pub round : (list : List ℤ) (fleet : List Runner) (t : ℕ) → (roundAnswer s list fleet t ≡ refused q) × (turnGiven s list fleet t ≡ [])
   -- as the first of two sheets to be joined, and as the second behind an accepted one
   pub join-first : (t : List ℕ) (room : ℕ) → joinSheets s t room ≡ refused q
   pub join-second : (t : List ℕ) (room : ℕ) → Accepted t → joinSheets t s room ≡ refused q
@@ -41,6 +44,12 @@ RefusedKeepsList = (s : List ℕ) (list : List ℤ) → ¬ (layOut s (length lis
 -- .. a refused step and a refused back the record ..
 abbrev pub RefusedKeepsRecord : Type 0
 RefusedKeepsRecord = (s : List ℕ) (r : Runner) → (¬ (stepped s r .number ≡ 0) → onward s r ≡ r) × (¬ (backed s r .number ≡ 0) → backward s r ≡ r)
+
+-- .. a refused round all records, and at the C boundary all numbers ..
+abbrev pub RefusedKeepsFleet : Type 0
+RefusedKeepsFleet = (s : List ℕ) (list : List ℤ) (t : ℕ)
+    → ((fleet : List Runner) → ¬ (roundAnswer s list fleet t .number ≡ 0) → fleetAfter s list fleet t ≡ fleet)
+    × ((lent : List ℕ) → ¬ (roundAnswer s list (records lent) t .number ≡ 0) → numbersAfter s list lent t ≡ lent)
 
 -- .. and a refused writing or joining the slice
 abbrev pub RefusedKeepsSlice : Type 0
