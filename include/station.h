@@ -1,28 +1,29 @@
 /* The route station's curve for C99 and later, and C++11 and later: the functions of the proved library libstation.a.
  * `tools/archive` makes the library, `tools/install PREFIX` installs both; examples/fly.c flies a course with them,
- * examples/join.c joins two. N6, A4 and the like are clauses of docs/REQUIREMENTS.md.
+ * examples/fleet.c flies several drones on it, examples/join.c joins two courses. N6, A4 and the like are clauses of docs/REQUIREMENTS.md.
  *
  * Units: ten ticks are a second; north, east and up are millimetres seen from the home post, in whole numbers. N, L and P stand for the
  * counts of waypoints, of legs, and of ticks on all legs together.
  *
- * Answers (A1, A9): STATION_DONE, or the least number of the refusals that this call looks for and finds; joining has an order of its own
- * (A13). A refused call leaves all that it was lent as it was. There is no state behind the calls, no heap, no global variable and no
- * errno; threads may call at the same time.
+ * Answers (A1, A9): STATION_DONE, or the least number of the refusals that this call looks for and finds; joining and the round have orders
+ * of their own (A13, A14). A refused call leaves all that it was lent as it was, but for the next turn, which goes with the refusal of a
+ * seat (Q3). There is no state behind the calls, no heap, no global variable and no errno; threads may call at the same time.
  *
  * A slice is a pointer, followed by how many elements there are. Any bytes and numbers may stand in it (D1). The caller owes that
  *   - its pointer is never null, even for no elements, is aligned as its type wants, and reaches over all the elements;
- *   - what a call writes (out; list when laying out; the runner of a step or a back; the sheet when writing or joining) shares no memory
- *     with another slice of that call (slices that it only reads may share theirs: a sheet can be joined with itself);
+ *   - what a call writes (out; list when laying out; the runner of a step or a back; the sheet when writing or joining; fleet, place and
+ *     next of a round) shares no memory with another slice of that call (slices that it only reads may share theirs: a sheet can be joined
+ *     with itself);
  *   - no other thread writes a slice during the call.
- * Results fill out from its start, and nothing after them is touched. An out that is too short stays as it was although the answer is the
- * same: the functions over structs, further down, cannot be called with a short out.
+ * Results fill out (of a round place and next) from its start, and nothing after them is touched. An out that is too short stays as it was
+ * although the answer is the same: the functions over structs, further down, cannot be called with a short out.
  *
  * The archive, as `tools/measure` prints it (`tools/measure --write` renews these lines):
  * [measured]
  *   format:           elf64-x86-64, for Linux (System V calls)
  *   outside symbols:  memset
- *   code:             7464 bytes with constants, data 0, zeroed data 0
- *   deepest stack:    401 bytes (read 305, lay_out 384, place_at_tick 385, place_of_runner 401, runner_at_tick 321, step 321, back 321, write 56, join 369)
+ *   code:             8064 bytes with constants, data 0, zeroed data 0
+ *   deepest stack:    401 bytes (read 305, lay_out 384, place_at_tick 385, place_of_runner 401, runner_at_tick 321, step 321, back 321, write 56, join 369, round 385)
  * [/measured]
  */
 #ifndef STATION_H
@@ -37,9 +38,9 @@
  * this one's own (C1), so lay out again. PATCH moves where every answer stays and only time or words move, as in 1.5.1 by how a tick's leg
  * is found (P7). */
 #define STATION_VERSION_MAJOR 1
-#define STATION_VERSION_MINOR 5
-#define STATION_VERSION_PATCH 1
-#define STATION_VERSION "1.5.1"
+#define STATION_VERSION_MINOR 6
+#define STATION_VERSION_PATCH 0
+#define STATION_VERSION "1.6.0"
 
 /* Asks gcc and clang to warn where an answer is dropped or a null pointer is handed over; nothing to other compilers. */
 #if defined(__GNUC__)
@@ -72,14 +73,17 @@ enum {
     STATION_START = 15,   /* N15: the runner stands at the first tick of an open course */
     STATION_SHUT = 16,    /* N16: one of the two sheets to be joined is not free-ended */
     STATION_APART = 17,   /* N17: the first sheet's last waypoint is not the second's first, on some axis */
-    STATION_CROWDED = 18  /* N18: the joined course would have over 512 waypoints */
+    STATION_CROWDED = 18, /* N18: the joined course would have over 512 waypoints */
+    STATION_SEATS = 19,   /* N19: the fleet has no seats, or over 32 */
+    STATION_TURN = 20     /* N20: the turn is not below the number of seats */
 };
 
 /* The kinds of ends (S4). */
 enum { STATION_FREE = 0, STATION_HELD = 1, STATION_CLOSED = 2 };
 
-/* How long an accepted sheet can be, in bytes (S9), and how long a list it can ask for, in numbers (N9): sizes for arrays. */
-enum { STATION_LONGEST_SHEET = 7198, STATION_LONGEST_LIST = 1536 };
+/* How long an accepted sheet can be, in bytes (S9), how long a list it can ask for, in numbers (N9), and how many seats a fleet can have
+ * (N19): sizes for arrays. */
+enum { STATION_LONGEST_SHEET = 7198, STATION_LONGEST_LIST = 1536, STATION_MOST_SEATS = 32 };
 
 /* Reads a sheet. Tests 1-8 (A2). Results: kind of ends, N, P. */
 STATION_CHECKED uint64_t station_read(const uint8_t *sheet, size_t sheet_length, uint64_t *out, size_t out_length);
@@ -127,7 +131,18 @@ STATION_CHECKED uint64_t station_write(uint64_t kind, const uint64_t *legs, size
 STATION_CHECKED uint64_t station_join(const uint8_t *first, size_t first_length, const uint8_t *second, size_t second_length,
                                       uint8_t *sheet, size_t sheet_length, uint64_t *out, size_t out_length);
 
-/* The same calls with structs for what they answer, and for the lists of a sheet. */
+/* Serves one seat of a fleet of drones on one course, the seat whose turn it is (Q1): moves its runner on by a tick where it lies and tells
+ * where that brings it (Q2). fleet has leg and offset of each seat in turn; there are k = fleet_length / 2 seats, rounded down, and an odd
+ * number at the end belongs to none. Tests 1-9, 19, 20, then of this seat 11, 13 and, at the leg on which it stands after the step, 12, in
+ * this order (A14). Results: north, east, up into place; the next turn into next, which is turn + 1, or 0 after the last seat. A seat that
+ * is refused (11, 13, 12) keeps its record, and its number comes with the next turn in next, without a place; with the other numbers
+ * nothing comes (Q3). The other seats' records stay as they were (Q4). Where place or next is too short, the record is moved on all the
+ * same. With each turn handed on as it came back, any k calls in a row that 1-9, 19 and 20 do not refuse serve each seat once (Q5). */
+STATION_CHECKED uint64_t station_round(const uint8_t *sheet, size_t sheet_length, const int64_t *list, size_t list_length, uint64_t *fleet,
+                                       size_t fleet_length, uint64_t turn, int64_t *place, size_t place_length, uint64_t *next,
+                                       size_t next_length);
+
+/* The same calls with structs for what they answer, for the lists of a sheet, and for the seats of a fleet. */
 
 struct station_course {
     uint64_t kind;      /* STATION_FREE, STATION_HELD or STATION_CLOSED */
@@ -142,6 +157,9 @@ struct station_place {
 struct station_runner {
     uint64_t leg, offset;
 };
+
+/* An array of runners is a fleet's numbers as they lie: does not compile where a runner is more than its two. */
+typedef char station_runner_is_two_numbers[sizeof(struct station_runner) == 2 * sizeof(uint64_t) ? 1 : -1];
 
 /* What a sheet is written from (G1). A list of no elements may have a null pointer here. */
 struct station_lists {
@@ -262,6 +280,24 @@ STATION_CHECKED static inline uint64_t station_join_into(const uint8_t *first, s
     return answer;
 }
 
+/* station_round, on an array of so many seats and into a struct. *turn becomes the next turn where a seat was served, refused (11, 13, 12)
+ * or not; with every other number it stays (Q3). */
+STATION_CHECKED static inline uint64_t station_round_fleet(const uint8_t *sheet, size_t sheet_length, const int64_t *list,
+                                                           size_t list_length, struct station_runner *fleet, size_t seats, uint64_t *turn,
+                                                           struct station_place *place)
+{
+    int64_t out[3] = {0, 0, 0};
+    uint64_t next[1] = {*turn};
+    uint64_t answer = station_round(sheet, sheet_length, list, list_length, &fleet->leg, 2 * seats, *turn, out, 3, next, 1);
+    *turn = next[0];
+    if (answer == STATION_DONE) {
+        place->north = out[0];
+        place->east = out[1];
+        place->up = out[2];
+    }
+    return answer;
+}
+
 /* The word of an answer (group N), "done" for STATION_DONE, "unknown" for a number that this header does not name. */
 static inline const char *station_word(uint64_t answer)
 {
@@ -304,6 +340,10 @@ static inline const char *station_word(uint64_t answer)
         return "apart";
     case STATION_CROWDED:
         return "crowded";
+    case STATION_SEATS:
+        return "seats";
+    case STATION_TURN:
+        return "turn";
     default:
         return "unknown";
     }

@@ -10,9 +10,9 @@
 #include <string.h>
 #include <ucontext.h>
 
-enum { STACK = 1 << 18, CALLS = 9, JOIN = 8, ADDRESS = 8 };
+enum { STACK = 1 << 18, CALLS = 10, JOIN = 8, ROUND = 9, ADDRESS = 8 };
 
-/* What is lent to a call: a sheet, the one that is joined to it, the lists it is made from, room for one more. */
+/* What is lent to a call: a sheet, the one that is joined to it, the lists it is made from, room for one more; a fleet. */
 static uint8_t sheet[STATION_LONGEST_SHEET + 1], second[STATION_LONGEST_SHEET + 1];
 static size_t sheet_length, second_length;
 static uint64_t legs[512];
@@ -20,14 +20,14 @@ static int64_t waypoints[3 * 512], slopes[6];
 static struct station_lists lists = {0, legs, 0, waypoints, 0, slopes, 0};
 static uint8_t page[STATION_LONGEST_SHEET];
 static int64_t list[STATION_LONGEST_LIST];
-static uint64_t tick, words[3];
+static uint64_t tick, words[3], fleet[2 * STATION_MOST_SEATS];
 static int64_t place[3];
 
 static const char *const names[CALLS] = {"read", "lay_out", "place_at_tick", "place_of_runner", "runner_at_tick",
-                                         "step", "back",    "write",         "join"};
+                                         "step", "back",    "write",         "join",            "round"};
 static uint64_t deepest[CALLS];
 
-/* The nine calls, or functions of the same types that do nothing. */
+/* The ten calls, or functions of the same types that do nothing. */
 struct calls {
     uint64_t (*read)(const uint8_t *, size_t, uint64_t *, size_t);
     uint64_t (*lay_out)(const uint8_t *, size_t, int64_t *, size_t);
@@ -39,10 +39,12 @@ struct calls {
     uint64_t (*write)(uint64_t, const uint64_t *, size_t, const int64_t *, size_t, const int64_t *, size_t, uint8_t *, size_t, uint64_t *,
                       size_t);
     uint64_t (*join)(const uint8_t *, size_t, const uint8_t *, size_t, uint8_t *, size_t, uint64_t *, size_t);
+    uint64_t (*round)(const uint8_t *, size_t, const int64_t *, size_t, uint64_t *, size_t, uint64_t, int64_t *, size_t, uint64_t *,
+                      size_t);
 };
 
 static const struct calls library = {station_read, station_lay_out, station_place_at_tick, station_place_of_runner, station_runner_at_tick,
-                                     station_step, station_back,    station_write,         station_join};
+                                     station_step, station_back,    station_write,         station_join,            station_round};
 
 static uint64_t no_read(const uint8_t *s, size_t n, uint64_t *out, size_t m)
 {
@@ -80,8 +82,14 @@ static uint64_t no_join(const uint8_t *s, size_t a, const uint8_t *t, size_t b, 
     return (void)s, (void)a, (void)t, (void)b, (void)p, (void)n, (void)out, (void)m, 0;
 }
 
+static uint64_t no_round(const uint8_t *s, size_t n, const int64_t *l, size_t k, uint64_t *f, size_t g, uint64_t t, int64_t *p, size_t m,
+                         uint64_t *out, size_t o)
+{
+    return (void)s, (void)n, (void)l, (void)k, (void)f, (void)g, (void)t, (void)p, (void)m, (void)out, (void)o, 0;
+}
+
 static const struct calls nothing = {no_read, no_lay_out, no_place_at_tick, no_place_of_runner, no_runner_at_tick,
-                                     no_read, no_read,    no_write,         no_join};
+                                     no_read, no_read,    no_write,         no_join,            no_round};
 
 /* Which call is made, and its answer; volatile, so that the compiler keeps one call site for both sets. */
 static const struct calls *volatile chosen;
@@ -118,8 +126,12 @@ static void make_call(void)
         answer = c->write(lists.kind, lists.legs, lists.legs_length, lists.waypoints, lists.waypoints_length, lists.slopes,
                           lists.slopes_length, page, sizeof page, words, 1);
         break;
-    default:
+    case JOIN:
         answer = c->join(sheet, sheet_length, second, second_length, page, sizeof page, words, 1);
+        break;
+    default:
+        answer = c->round(sheet, sheet_length, list, STATION_LONGEST_LIST, fleet, 2 * STATION_MOST_SEATS, STATION_MOST_SEATS - 1, place, 3,
+                          words, 1);
     }
 }
 
@@ -150,8 +162,8 @@ static void measure_call(int i, uint64_t at, uint64_t leg, uint64_t offset, uint
     for (size_t p = 0; p < sizeof paints; p++) {
         call = i;
         tick = at;
-        words[0] = leg;
-        words[1] = offset;
+        words[0] = fleet[2 * STATION_MOST_SEATS - 2] = leg;
+        words[1] = fleet[2 * STATION_MOST_SEATS - 1] = offset;
         size_t empty = untouched(&nothing, paints[p]);
         size_t full = untouched(&library, paints[p]);
         if (answer != wanted || full == 0 || full > empty) {
@@ -165,11 +177,12 @@ static void measure_call(int i, uint64_t at, uint64_t leg, uint64_t offset, uint
     }
 }
 
-/* All calls but the joining, which have one answer on the sheet and lists that are in place. */
+/* All calls but the joining, which have one answer on the sheet and lists that are in place; of a fleet the last seat is served. */
 static void measure(uint64_t at, uint64_t leg, uint64_t offset, uint64_t wanted)
 {
     for (int i = 0; i < JOIN; i++)
         measure_call(i, at, leg, offset, wanted);
+    measure_call(ROUND, at, leg, offset, wanted);
 }
 
 /* Makes the lists of a course whose waypoints swing between each axis' own limits; answers P. */

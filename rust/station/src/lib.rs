@@ -2,11 +2,12 @@
 //! other crates. N6, A4 and the like are clauses of the repository's `docs/REQUIREMENTS.md`.
 //!
 //! A *sheet* is a course as bytes. [`read`] tells what it holds, [`lay_out`] makes the bend numbers that the places need, and then
-//! [`place_at_tick`] tells where the course is at each tick. A [`Runner`] does the same for a drone that moves on, or back, tick by tick.
-//! [`write()`] makes a sheet from lists of numbers, [`join`] one of two. Ten ticks are a second, and lengths are whole millimetres.
+//! [`place_at_tick`] tells where the course is at each tick. A [`Runner`] does the same for a drone that moves on, or back, tick by tick, a
+//! [`Fleet`] for several of them in turn. [`write()`] makes a sheet from lists of numbers, [`join`] one of two. Ten ticks are a second, and
+//! lengths are whole millimetres.
 //!
 //! Every function takes any bytes, lists and numbers (D1). What does not fit is answered with a [`Refusal`], and then nothing that was
-//! lent has changed (A9).
+//! lent has changed (A9); a fleet whose seat is refused passes its turn on (Q3).
 //!
 //! ```
 //! let sheet = station::COURSE_A;
@@ -25,16 +26,18 @@
 //!
 //! `build.rs` links `libstation.a` from the folder that the variable `STATION_LIBRARY_DIR` names, or from `target/staticlib` of the
 //! repository that this crate is part of, where `tools/archive` makes it. The archive is for x86-64. Without the default feature `link`
-//! nothing is linked: the program then brings the nine functions of [`raw`] itself.
+//! nothing is linked: the program then brings the ten functions of [`raw`] itself.
 
 #![no_std]
 #![deny(missing_docs)]
 #![deny(unsafe_code)]
 
+mod fleet;
 #[allow(unsafe_code)]
 pub mod raw;
 mod refusal;
 
+pub use fleet::{Fleet, MOST_SEATS};
 pub use refusal::Refusal;
 
 /// How long an accepted sheet can be, in bytes (S9): the size of an array into which every sheet can be written.
@@ -106,7 +109,9 @@ impl From<Place> for [i64; 3] {
 }
 
 /// Where a drone stands on a course (M1). The default is the first waypoint.
+// laid out as in C, so that a fleet's runners are lent as they lie (raw.rs)
 #[derive(Clone, Copy, PartialEq, Eq, Hash, Debug, Default)]
+#[repr(C)]
 pub struct Runner {
     /// The leg, counted from 0.
     pub leg: u64,

@@ -1,5 +1,7 @@
-//! The C boundary (`include/station.h`): the nine functions as the archive has them, and the same over slices, for the rest of the crate.
+//! The C boundary (`include/station.h`): the ten functions as the archive has them, and the same over slices, for the rest of the crate.
 //! All `unsafe` code of the crate is here.
+
+use crate::Runner;
 
 // SAFETY: names and types are those of include/station.h.
 unsafe extern "C" {
@@ -58,6 +60,21 @@ unsafe extern "C" {
         sheet_length: usize,
         out: *mut u64,
         out_length: usize,
+    ) -> u64;
+    /// Moves on by a tick the seat of `fleet`, a leg and an offset for each, whose turn it is; its place into `place`, the next turn into
+    /// `next`.
+    pub fn station_round(
+        sheet: *const u8,
+        sheet_length: usize,
+        list: *const i64,
+        list_length: usize,
+        fleet: *mut u64,
+        fleet_length: usize,
+        turn: u64,
+        place: *mut i64,
+        place_length: usize,
+        next: *mut u64,
+        next_length: usize,
     ) -> u64;
 }
 
@@ -119,4 +136,16 @@ pub(crate) fn join(first: &[u8], second: &[u8], sheet: &mut [u8], out: &mut [u64
     let (a, b, page, length) = (first.as_ptr(), second.as_ptr(), sheet.as_mut_ptr(), sheet.len());
     // SAFETY: pointers and lengths of four borrowed slices, `sheet` and `out` borrowed mutably; the two that are read may be one.
     unsafe { station_join(a, first.len(), b, second.len(), page, length, out.as_mut_ptr(), out.len()) }
+}
+
+// A fleet's runners are its numbers as they lie: does not compile where a runner is more than its two.
+const _: () = assert!(size_of::<Runner>() == 2 * size_of::<u64>());
+
+#[inline]
+pub(crate) fn round(sheet: &[u8], list: &[i64], fleet: &mut [Runner], turn: u64, place: &mut [i64; 3], next: &mut [u64; 1]) -> u64 {
+    let (s, n, l, m) = (sheet.as_ptr(), sheet.len(), list.as_ptr(), list.len());
+    // leg and offset of each runner in turn (`repr(C)`)
+    let (seats, numbers) = (fleet.as_mut_ptr().cast(), 2 * fleet.len());
+    // SAFETY: pointers and lengths of five borrowed slices, `fleet`, `place` and `next` borrowed mutably.
+    unsafe { station_round(s, n, l, m, seats, numbers, turn, place.as_mut_ptr(), place.len(), next.as_mut_ptr(), next.len()) }
 }

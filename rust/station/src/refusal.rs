@@ -2,8 +2,8 @@
 
 use core::fmt;
 
-/// Why a call was refused. Of the refusals that a call looks for, the one with the least number is answered (A1); joining has an order of
-/// its own (A13).
+/// Why a call was refused. Of the refusals that a call looks for, the one with the least number is answered (A1); joining and the round
+/// have orders of their own (A13, A14).
 ///
 /// ```
 /// use station::Refusal;
@@ -52,6 +52,10 @@ pub enum Refusal {
     Apart,
     /// N18: the joined course would have over 512 waypoints.
     Crowded,
+    /// N19: the fleet has no seats, or over 32.
+    Seats,
+    /// N20: the turn is not below the number of seats.
+    Turn,
     /// A number that this crate does not know, from a library newer than it. The library of this version has no such answer.
     Unknown(u64),
 }
@@ -88,6 +92,8 @@ impl Refusal {
             16 => Refusal::Shut,
             17 => Refusal::Apart,
             18 => Refusal::Crowded,
+            19 => Refusal::Seats,
+            20 => Refusal::Turn,
             _ => Refusal::Unknown(number),
         })
     }
@@ -123,6 +129,8 @@ impl Refusal {
             Refusal::Shut => (16, "shut"),
             Refusal::Apart => (17, "apart"),
             Refusal::Crowded => (18, "crowded"),
+            Refusal::Seats => (19, "seats"),
+            Refusal::Turn => (20, "turn"),
             Refusal::Unknown(number) => (number, "unknown"),
         }
     }
