@@ -1,4 +1,4 @@
-/* The nine calls of include/station.h over ten parts, which base.c and careful.c write each in its own way. The file that includes this
+/* The ten calls of include/station.h over ten parts, which base.c and careful.c write each in its own way. The file that includes this
  * one says by NAME what its calls are called; by KEPT it may say what it keeps of a course beside its fields. ROOM and NO_RUNNER are the
  * answers where a lent slice is too short, from src/room.rs; nothing is written into it then. */
 #include "station.h"
@@ -45,6 +45,24 @@ static int is_adrift(const struct course *c, uint64_t leg, uint64_t offset)
     if (offset < h)
         return 0;
     return !(offset == h && c->kind != STATION_CLOSED && leg == c->leg_count - 1);
+}
+
+/* Tests 11 and 13 of a runner, then moves it on by a tick. */
+static inline uint64_t move_on(const struct course *c, uint64_t *runner)
+{
+    if (is_adrift(c, runner[0], runner[1]))
+        return STATION_ADRIFT;
+    uint64_t h = leg_length(c, runner[0]);
+    if (runner[1] == h)
+        return STATION_LANDED;
+    int last = runner[0] == c->leg_count - 1;
+    if (runner[1] + 1 < h || (last && c->kind != STATION_CLOSED)) {
+        runner[1] += 1;
+    } else {
+        runner[0] = last ? 0 : runner[0] + 1;
+        runner[1] = 0;
+    }
+    return STATION_DONE;
 }
 
 uint64_t NAME(read)(const uint8_t *sheet, size_t sheet_length, uint64_t *out, size_t out_length)
@@ -128,19 +146,7 @@ uint64_t NAME(step)(const uint8_t *sheet, size_t sheet_length, uint64_t *runner,
         return answer;
     if (runner_length < 2)
         return NO_RUNNER;
-    if (is_adrift(&c, runner[0], runner[1]))
-        return STATION_ADRIFT;
-    uint64_t h = leg_length(&c, runner[0]);
-    if (runner[1] == h)
-        return STATION_LANDED;
-    int last = runner[0] == c.leg_count - 1;
-    if (runner[1] + 1 < h || (last && c.kind != STATION_CLOSED)) {
-        runner[1] += 1;
-    } else {
-        runner[0] = last ? 0 : runner[0] + 1;
-        runner[1] = 0;
-    }
-    return STATION_DONE;
+    return move_on(&c, runner);
 }
 
 uint64_t NAME(back)(const uint8_t *sheet, size_t sheet_length, uint64_t *runner, size_t runner_length)
@@ -245,4 +251,34 @@ uint64_t NAME(join)(const uint8_t *first, size_t first_length, const uint8_t *se
         return ROOM;
     out[0] = length;
     return STATION_DONE;
+}
+
+/* The seat's runner is moved on in a copy, which becomes its record where 12 does not apply; the lack of room keeps no record back. */
+uint64_t NAME(round)(const uint8_t *sheet, size_t sheet_length, const int64_t *list, size_t list_length, uint64_t *fleet,
+                     size_t fleet_length, uint64_t turn, int64_t *out, size_t out_length, uint64_t *next, size_t next_length)
+{
+    struct course c;
+    size_t seats = fleet_length / 2;
+    uint64_t answer = read_course(sheet, sheet_length, &c);
+    if (answer)
+        return answer;
+    if (list_length < 3 * c.n)
+        return STATION_SHELF;
+    if (seats < 1 || seats > STATION_MOST_SEATS)
+        return STATION_SEATS;
+    if (turn >= seats)
+        return STATION_TURN;
+    if (next_length > 0)
+        next[0] = turn + 1 < seats ? turn + 1 : 0;
+    uint64_t *seat = fleet + 2 * turn;
+    uint64_t runner[2] = {seat[0], seat[1]};
+    answer = move_on(&c, runner);
+    if (answer)
+        return answer;
+    answer = place(&c, list, runner[0], runner[1], out, out_length);
+    if (answer == STATION_BEND)
+        return answer;
+    seat[0] = runner[0];
+    seat[1] = runner[1];
+    return answer;
 }

@@ -12,8 +12,8 @@ struct entry {
 static const struct entry entries[] = {
     ENTRY(DONE), ENTRY(TORN), ENTRY(EDITION), ENTRY(ENDS), ENTRY(POINTS), ENTRY(SIZE), ENTRY(LEG),
     ENTRY(REACH), ENTRY(SLOPE), ENTRY(SHELF), ENTRY(PAST), ENTRY(ADRIFT), ENTRY(BEND), ENTRY(LANDED),
-    ENTRY(PAGE), ENTRY(START), ENTRY(SHUT), ENTRY(APART), ENTRY(CROWDED), ENTRY(FREE), ENTRY(HELD), ENTRY(CLOSED),
-    ENTRY(LONGEST_SHEET), ENTRY(LONGEST_LIST),
+    ENTRY(PAGE), ENTRY(START), ENTRY(SHUT), ENTRY(APART), ENTRY(CROWDED), ENTRY(SEATS), ENTRY(TURN), ENTRY(FREE), ENTRY(HELD),
+    ENTRY(CLOSED), ENTRY(LONGEST_SHEET), ENTRY(LONGEST_LIST), ENTRY(MOST_SEATS),
 };
 
 /* The i-th enumerator, or 0 past the last. */
@@ -28,7 +28,7 @@ const char *header_word(uint64_t number)
     return station_word(number);
 }
 
-/* The nine calls by the header's functions over structs, in the form of the calls themselves, so that evidence can compare them alike. The
+/* The ten calls by the header's functions over structs, in the form of the calls themselves, so that evidence can compare them alike. The
  * structs hold before a call what out holds. Where out is too short for a struct, and for laying out, there is only the call itself. */
 
 uint64_t structs_read(const uint8_t *sheet, size_t n, uint64_t *out, size_t m)
@@ -130,6 +130,27 @@ uint64_t structs_join(const uint8_t *first, size_t a, const uint8_t *second, siz
     size_t length = out[0];
     uint64_t answer = station_join_into(first, a, second, b, sheet, n, &length);
     out[0] = length;
+    return answer;
+}
+
+/* Whether the next turn goes with an answer to a round (Q3). */
+static int passes_on(uint64_t answer)
+{
+    return answer == STATION_DONE || answer == STATION_ADRIFT || answer == STATION_LANDED || answer == STATION_BEND;
+}
+
+/* The fleet's numbers are the structs themselves. A turn that moved though it may not is put into next, where evidence sees it. */
+uint64_t structs_round(const uint8_t *sheet, size_t n, const int64_t *list, size_t k, uint64_t *fleet, size_t f, uint64_t turn,
+                       int64_t *out, size_t m, uint64_t *next, size_t t)
+{
+    if (m < 3 || t < 1)
+        return station_round(sheet, n, list, k, fleet, f, turn, out, m, next, t);
+    struct station_place place = {out[0], out[1], out[2]};
+    uint64_t at = turn;
+    uint64_t answer = station_round_fleet(sheet, n, list, k, (struct station_runner *)fleet, f / 2, &at, &place);
+    put_place(&place, out);
+    if (passes_on(answer) || at != turn)
+        next[0] = at;
     return answer;
 }
 

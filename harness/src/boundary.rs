@@ -6,7 +6,10 @@ use crate::room::{NO_RUNNER, ROOM};
 /// `station_write`: the kind, three lists, the page, the out.
 type Write = unsafe extern "C" fn(u64, *const u64, usize, *const i64, usize, *const i64, usize, *mut u8, usize, *mut u64, usize) -> u64;
 
-/// One implementation of the nine calls.
+/// `station_round`: the sheet, the list, the fleet, the turn, the place, the next turn.
+type Round = unsafe extern "C" fn(*const u8, usize, *const i64, usize, *mut u64, usize, u64, *mut i64, usize, *mut u64, usize) -> u64;
+
+/// One implementation of the ten calls.
 pub struct Calls {
     pub name: &'static str,
     pub read: unsafe extern "C" fn(*const u8, usize, *mut u64, usize) -> u64,
@@ -18,6 +21,7 @@ pub struct Calls {
     pub back: unsafe extern "C" fn(*const u8, usize, *mut u64, usize) -> u64,
     pub write: Write,
     pub join: unsafe extern "C" fn(*const u8, usize, *const u8, usize, *mut u8, usize, *mut u64, usize) -> u64,
+    pub round: Round,
 }
 
 impl Calls {
@@ -36,6 +40,14 @@ impl Calls {
         // SAFETY: pointers and lengths of live slices; those that are written overlap no other.
         unsafe { (self.join)(first, a, second, b, page, n, out, m) }
     }
+
+    /// The call `round` over slices.
+    pub fn round_slices(&self, sheet: &[u8], list: &[i64], fleet: &mut [u64], turn: u64, place: &mut [i64], next: &mut [u64]) -> u64 {
+        let ((sheet, n), (list, k), (fleet, f)) = (parts(sheet), parts(list), (fleet.as_mut_ptr(), fleet.len()));
+        let ((place, m), (next, t)) = ((place.as_mut_ptr(), place.len()), (next.as_mut_ptr(), next.len()));
+        // SAFETY: pointers and lengths of live slices; those that are written overlap no other.
+        unsafe { (self.round)(sheet, n, list, k, fleet, f, turn, place, m, next, t) }
+    }
 }
 
 /// A slice as C takes it.
@@ -45,7 +57,7 @@ fn parts<T>(slice: &[T]) -> (*const T, usize) {
 
 macro_rules! c_calls {
     ($($read:ident $lay_out:ident $place_at_tick:ident $place_of_runner:ident
-       $runner_at_tick:ident $step:ident $back:ident $write:ident $join:ident;)*) => {
+       $runner_at_tick:ident $step:ident $back:ident $write:ident $join:ident $round:ident;)*) => {
         extern "C" { $(
             fn $read(sheet: *const u8, n: usize, out: *mut u64, m: usize) -> u64;
             fn $lay_out(sheet: *const u8, n: usize, list: *mut i64, m: usize) -> u64;
@@ -63,21 +75,25 @@ macro_rules! c_calls {
             fn $join(
                 first: *const u8, a: usize, second: *const u8, b: usize, sheet: *mut u8, n: usize, out: *mut u64, m: usize,
             ) -> u64;
+            fn $round(
+                sheet: *const u8, n: usize, list: *const i64, k: usize, fleet: *mut u64, f: usize, turn: u64,
+                place: *mut i64, m: usize, next: *mut u64, t: usize,
+            ) -> u64;
         )* }
     };
 }
 
 c_calls! {
     station_read station_lay_out station_place_at_tick station_place_of_runner
-        station_runner_at_tick station_step station_back station_write station_join;
+        station_runner_at_tick station_step station_back station_write station_join station_round;
     base_read base_lay_out base_place_at_tick base_place_of_runner
-        base_runner_at_tick base_step base_back base_write base_join;
+        base_runner_at_tick base_step base_back base_write base_join base_round;
     careful_read careful_lay_out careful_place_at_tick careful_place_of_runner
-        careful_runner_at_tick careful_step careful_back careful_write careful_join;
+        careful_runner_at_tick careful_step careful_back careful_write careful_join careful_round;
     half_first_read half_first_lay_out half_first_place_at_tick half_first_place_of_runner
-        half_first_runner_at_tick half_first_step half_first_back half_first_write half_first_join;
+        half_first_runner_at_tick half_first_step half_first_back half_first_write half_first_join half_first_round;
     structs_read structs_lay_out structs_place_at_tick structs_place_of_runner
-        structs_runner_at_tick structs_step structs_back structs_write structs_join;
+        structs_runner_at_tick structs_step structs_back structs_write structs_join structs_round;
 }
 
 /// The station's library.
@@ -92,6 +108,7 @@ pub const LIBRARY: Calls = Calls {
     back: station_back,
     write: station_write,
     join: station_join,
+    round: station_round,
 };
 
 /// c/base.c.
@@ -106,6 +123,7 @@ pub const BASE: Calls = Calls {
     back: base_back,
     write: base_write,
     join: base_join,
+    round: base_round,
 };
 
 /// c/careful.c.
@@ -120,6 +138,7 @@ pub const CAREFUL: Calls = Calls {
     back: careful_back,
     write: careful_write,
     join: careful_join,
+    round: careful_round,
 };
 
 /// c/careful.c with HALF_FIRST.
@@ -134,6 +153,7 @@ pub const HALF_FIRST: Calls = Calls {
     back: half_first_back,
     write: half_first_write,
     join: half_first_join,
+    round: half_first_round,
 };
 
 /// The library by the header's functions over structs (c/header.c).
@@ -148,9 +168,10 @@ pub const STRUCTS: Calls = Calls {
     back: structs_back,
     write: structs_write,
     join: structs_join,
+    round: structs_round,
 };
 
-/// Any of the nine calls with its numbers, a writing's lists, a joining's second sheet.
+/// Any of the ten calls with its numbers, a writing's lists, a joining's second sheet.
 #[derive(Clone, Debug)]
 pub enum Call {
     Read,
@@ -162,15 +183,18 @@ pub enum Call {
     Back,
     Write(Lists),
     Join(Vec<u8>),
+    Round { turn: u64 },
 }
 
 /// What else is lent to a call, as it was before it or as it is after it.
 #[derive(Clone, Default, PartialEq, Eq, Debug)]
 pub struct Lent {
     pub list: Vec<i64>,
-    /// The out of numbers without sign, or the runner.
+    /// The out of numbers without sign, or the runner, or the fleet.
     pub words: Vec<u64>,
     pub place: Vec<i64>,
+    /// The out of a round's next turn.
+    pub next: Vec<u64>,
     /// What a sheet is written into.
     pub page: Vec<u8>,
 }
@@ -186,14 +210,16 @@ pub struct Memory<'a> {
     pub list: &'a mut [i64],
     pub words: &'a mut [u64],
     pub place: &'a mut [i64],
+    pub next: &'a mut [u64],
     pub page: &'a mut [u8],
 }
 
 /// The names of the calls, by [`Call::index`].
-pub const NAMES: [&str; 9] = ["read", "lay_out", "place_at_tick", "place_of_runner", "runner_at_tick", "step", "back", "write", "join"];
+pub const NAMES: [&str; 10] =
+    ["read", "lay_out", "place_at_tick", "place_of_runner", "runner_at_tick", "step", "back", "write", "join", "round"];
 
-/// A2 to A7, A12, A11, A13: the numbers that each call tests, by [`Call::index`]; and the answers where what is lent is too short.
-pub const TESTS: [&[u64]; 9] = [
+/// A2 to A7, A12, A11, A13, A14: the numbers that each call tests, by [`Call::index`]; and the answers where what is lent is too short.
+pub const TESTS: [&[u64]; 10] = [
     &[1, 2, 3, 4, 5, 6, 7, 8, ROOM],
     &[1, 2, 3, 4, 5, 6, 7, 8, 9],
     &[1, 2, 3, 4, 5, 6, 7, 8, 9, 10, 12, ROOM],
@@ -203,6 +229,7 @@ pub const TESTS: [&[u64]; 9] = [
     &[1, 2, 3, 4, 5, 6, 7, 8, 11, 15, NO_RUNNER],
     &[3, 4, 5, 6, 7, 8, 14, ROOM],
     &[1, 2, 3, 4, 5, 6, 7, 8, 14, 16, 17, 18, ROOM],
+    &[1, 2, 3, 4, 5, 6, 7, 8, 9, 11, 12, 13, 19, 20, ROOM],
 ];
 
 impl Call {
@@ -217,6 +244,7 @@ impl Call {
             Call::Back => 6,
             Call::Write(_) => 7,
             Call::Join(_) => 8,
+            Call::Round { .. } => 9,
         }
     }
 
@@ -228,12 +256,13 @@ impl Call {
             Call::PlaceAtTick { .. } | Call::PlaceOfRunner { .. } => lent.place.len() < 3,
             Call::RunnerAtTick { .. } | Call::Step | Call::Back => lent.words.len() < 2,
             Call::Write(_) | Call::Join(_) => lent.words.is_empty(),
+            Call::Round { .. } => lent.place.len() < 3 || lent.next.is_empty(),
         }
     }
 
-    /// What the model says: the answer, and in `lent` what it leaves there. Refused calls change nothing.
+    /// What the model says: the answer, and in `lent` what it leaves there. Refused calls change nothing but a round's next turn (Q3).
     pub fn by_model(&self, sheet: &[u8], lent: &mut Lent) -> u64 {
-        let Lent { list, words, place, page } = lent;
+        let Lent { list, words, place, next, page } = lent;
         let answer = match *self {
             Call::Read => model::read(sheet).and_then(|course| put(words, &[course.kind as u64, course.n as u64, course.ticks() as u64])),
             Call::LayOut => model::lay_out(sheet, list),
@@ -244,13 +273,17 @@ impl Call {
             Call::Back => moved(sheet, words, model::backed),
             Call::Write(ref lists) => model::write(lists, page).and_then(|length| put(words, &[length as u64])),
             Call::Join(ref second) => model::join(sheet, second, page).and_then(|length| put(words, &[length as u64])),
+            Call::Round { turn } => model::round(sheet, list, words, turn).and_then(|served| {
+                let passed_on = put(next, &[served.next]);
+                served.place.and_then(|found| put(place, &found)).and(passed_on)
+            }),
         };
         answer.err().unwrap_or(0)
     }
 
     /// The same by one of the implementations.
     pub fn by(&self, calls: &Calls, memory: Memory) -> u64 {
-        let Memory { sheet, second, legs, waypoints, slopes, list, words, place, page } = memory;
+        let Memory { sheet, second, legs, waypoints, slopes, list, words, place, next, page } = memory;
         let ((s, n), (out, m)) = (parts(sheet), (words.as_mut_ptr(), words.len()));
         // SAFETY: pointers and lengths of live slices; those that are written overlap no other.
         unsafe {
@@ -266,6 +299,7 @@ impl Call {
                 Call::Back => (calls.back)(s, n, out, m),
                 Call::Write(Lists { kind, .. }) => calls.write_slices(kind, legs, waypoints, slopes, page, words),
                 Call::Join(_) => calls.join_slices(sheet, second, page, words),
+                Call::Round { turn } => calls.round_slices(sheet, list, words, turn, place, next),
             }
         }
     }

@@ -5,11 +5,13 @@
 
 mod joining;
 mod refusals;
+mod rounds;
 mod runners;
 mod writing;
 
 pub use joining::join;
 pub use refusals::*;
+pub use rounds::{round, Served, MOST_SEATS};
 pub use runners::{backed, runner_at_tick, stepped};
 pub use writing::{write, Lists};
 

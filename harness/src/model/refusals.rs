@@ -18,9 +18,11 @@ pub const START: u64 = 15;
 pub const SHUT: u64 = 16;
 pub const APART: u64 = 17;
 pub const CROWDED: u64 = 18;
+pub const SEATS: u64 = 19;
+pub const TURN: u64 = 20;
 
-/// The words of N1 to N18, by number; 0 has none.
-pub const WORDS: [&str; 19] = [
+/// The words of N1 to N20, by number; 0 has none.
+pub const WORDS: [&str; 21] = [
     "", "torn", "edition", "ends", "points", "size", "leg", "reach", "slope", "shelf", "past", "adrift", "bend", "landed", "page", "start",
-    "shut", "apart", "crowded",
+    "shut", "apart", "crowded", "seats", "turn",
 ];

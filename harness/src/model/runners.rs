@@ -27,6 +27,25 @@ impl Course {
         let h = self.legs[leg as usize] as u64;
         offset < h || (!self.closed() && leg as usize == self.legs.len() - 1 && offset == h)
     }
+
+    /// N11, N13, then the runner one tick on.
+    pub fn stepped(&self, leg: u64, offset: u64) -> Result<(u64, u64), u64> {
+        if !self.fits(leg, offset) {
+            return Err(ADRIFT);
+        }
+        let h = self.legs[leg as usize] as u64;
+        let last = leg as usize == self.legs.len() - 1;
+        // N13: an offset that fits and is the whole leg is the last tick
+        if offset == h {
+            return Err(LANDED);
+        }
+        // M3: inside the leg or onto an open course's end; else the next leg starts
+        if offset + 1 < h || (last && !self.closed()) {
+            Ok((leg, offset + 1))
+        } else {
+            Ok(((leg + 1) % self.legs.len() as u64, 0))
+        }
+    }
 }
 
 /// A6.
@@ -38,22 +57,7 @@ pub fn runner_at_tick(sheet: &[u8], tick: u64) -> Result<(u64, u64), u64> {
 
 /// A7: the runner one tick on.
 pub fn stepped(sheet: &[u8], leg: u64, offset: u64) -> Result<(u64, u64), u64> {
-    let course = read(sheet)?;
-    if !course.fits(leg, offset) {
-        return Err(ADRIFT);
-    }
-    let h = course.legs[leg as usize] as u64;
-    let last = leg as usize == course.legs.len() - 1;
-    // N13: an offset that fits and is the whole leg is the last tick
-    if offset == h {
-        return Err(LANDED);
-    }
-    // M3: inside the leg or onto an open course's end; else the next leg starts
-    if offset + 1 < h || (last && !course.closed()) {
-        Ok((leg, offset + 1))
-    } else {
-        Ok(((leg + 1) % course.legs.len() as u64, 0))
-    }
+    read(sheet)?.stepped(leg, offset)
 }
 
 /// A12: the runner one tick back. Found by its tick, from which one is taken, going round on a closed course (M7).

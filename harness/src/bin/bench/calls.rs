@@ -49,6 +49,8 @@ pub enum Call {
     Back,
     Write,
     Join,
+    /// Of so many seats.
+    Round(usize),
 }
 
 impl Call {
@@ -82,6 +84,7 @@ impl Call {
             }
             Call::PlaceAt(_) | Call::PlaceOfRunner => self.placing(calls, form),
             Call::Write | Call::Join => self.making(calls, form),
+            Call::Round(seats) => rounds(calls, form, seats),
         }
     }
 
@@ -119,6 +122,22 @@ impl Call {
             black_box(calls.write_slices(*kind, legs, waypoints, slopes, &mut page, &mut length));
         })
     }
+}
+
+/// Rounds of a fleet with the turn handed on as it comes back. Each call finds the seat's runner halfway round, where it is not refused: a
+/// refusal would be quick.
+fn rounds<'a>(calls: &'a Calls, form: &'a Form, seats: usize) -> Work<'a> {
+    let (mut fleet, mut place, mut next) = (vec![0; 2 * seats], [0; 3], [0]);
+    for (k, sheet) in form.sheets.iter().enumerate() {
+        let mut seat = form.runners[k];
+        let served = model::round(sheet, &form.lists[k], &mut seat, 0).expect("a fleet of one seat");
+        served.place.expect("a seat that moves on");
+    }
+    Box::new(move |k| {
+        let turn = next[0];
+        fleet[2 * turn as usize..][..2].copy_from_slice(&form.runners[k]);
+        black_box(calls.round_slices(&form.sheets[k], &form.lists[k], &mut fleet, turn, &mut place, &mut next));
+    })
 }
 
 /// The tick on each sheet of a form, which has to have it: a refusal would be quick.

@@ -13,6 +13,7 @@ mod forms;
 use calls::{At, Call, Work};
 use forms::{forms, Form};
 use harness::boundary::{BASE, CAREFUL, HALF_FIRST, LIBRARY};
+use harness::model::MOST_SEATS;
 use harness::options::Given;
 use harness::pcuspl::Pcuspl;
 use std::hint::black_box;
@@ -122,9 +123,14 @@ impl Bench {
 
     /// N = 512 over N = 64, where both were timed.
     fn growth(&mut self, name: &str, target: Target, large: Option<f64>, small: Option<f64>) {
+        self.over(&format!("N = 512 over N = 64: {name}"), Some(target), large, small);
+    }
+
+    /// One of the library's times over another, where both were timed.
+    fn over(&mut self, name: &str, target: Option<Target>, large: Option<f64>, small: Option<f64>) {
         if let (Some(large), Some(small)) = (large, small) {
-            let ratio = self.ratio(large / small, Some(target));
-            println!("{:<46} {:>12}   {}", format!("N = 512 over N = 64: {name}"), "", ratio.trim_end());
+            let ratio = self.ratio(large / small, target);
+            println!("{:<46} {:>12}   {}", name, "", ratio.trim_end());
         }
     }
 }
@@ -133,7 +139,7 @@ impl Bench {
 fn over_half_first(call: Call) -> Option<Target> {
     match call {
         Call::LayOut => Some(LAY_OUT_OVER_HALF_FIRST),
-        Call::PlaceAt(_) | Call::PlaceOfRunner => Some(PLACE_OVER_HALF_FIRST),
+        Call::PlaceAt(_) | Call::PlaceOfRunner | Call::Round(_) => Some(PLACE_OVER_HALF_FIRST),
         _ => None,
     }
 }
@@ -163,19 +169,24 @@ fn main() {
     );
 }
 
-/// The nine calls on all forms, and how they grow.
-fn time_calls(bench: &mut Bench, [small, large]: &[Form; 2], three: &Form, laid: &[[Form; 2]]) {
+/// The ten calls on all forms, and how they grow.
+fn time_calls(bench: &mut Bench, open: &[Form; 2], three: &Form, laid: &[[Form; 2]]) {
     let ticks = [At::First, At::Middle, At::Last];
+    let [small, large] = open;
     let [large, small] = [large, small].map(|form| time_form(bench, form, &ticks));
     time_form(bench, three, &[At::Last]);
+    let one_seat = bench.call("round, 1 seat", &open[1], Call::Round(1));
     bench.call(&format!("place at {}", At::LapsOn.name()), &laid[0][1], Call::PlaceAt(At::LapsOn));
     let per_pass = time_laying_out(bench, three, laid);
     for ((name, call, large), (_, _, small)) in large.into_iter().zip(small) {
         if let Call::PlaceAt(At::Last) = call {
             bench.growth(&name, ASKED_GROWTH, large, small);
         }
-        if let Call::PlaceAt(_) | Call::RunnerAt(_) | Call::Write | Call::Join = call {
+        if let Call::PlaceAt(_) | Call::RunnerAt(_) | Call::Write | Call::Join | Call::Round(_) = call {
             bench.growth(&name, GROWTH, large, small);
+        }
+        if let Call::Round(seats) = call {
+            bench.over(&format!("{seats} seats over 1: round, N = 512"), None, large, one_seat);
         }
     }
     for (name, [small, large]) in per_pass {
@@ -198,6 +209,7 @@ fn time_form(bench: &mut Bench, form: &Form, ticks: &[At]) -> Vec<(String, Call,
         one("back", Call::Back),
         one("write", Call::Write),
         one("join", Call::Join),
+        one(&format!("round, {MOST_SEATS} seats"), Call::Round(MOST_SEATS)),
     ];
     let timed = |(name, call): (String, Call)| {
         let time = bench.call(&name, form, call);

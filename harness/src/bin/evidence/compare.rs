@@ -33,6 +33,7 @@ pub struct Comparison {
     list: Fenced<i64>,
     words: Fenced<u64>,
     place: Fenced<i64>,
+    next: Fenced<u64>,
     page: Fenced<u8>,
 }
 
@@ -60,8 +61,9 @@ impl Comparison {
             waypoints: Fenced::new(1 << 18),
             slopes: Fenced::new(64),
             list: Fenced::new(4096),
-            words: Fenced::new(64),
+            words: Fenced::new(128),
             place: Fenced::new(64),
+            next: Fenced::new(64),
             page: Fenced::new(1 << 14),
         }
     }
@@ -91,11 +93,13 @@ impl Comparison {
         let list = self.list.lend(&before.list, self.stand);
         let words = self.words.lend(&before.words, self.stand);
         let place = self.place.lend(&before.place, self.stand);
+        let next = self.next.lend(&before.next, self.stand);
         let page = self.page.lend(&before.page, self.stand);
         let doing = Doing { part: self.part.name(), seed: self.seed, case: self.case, implementation: calls.name, call, sheet };
-        let memory = Memory { sheet: lent_sheet, second, legs, waypoints, slopes, list, words, place, page };
+        let memory = Memory { sheet: lent_sheet, second, legs, waypoints, slopes, list, words, place, next, page };
         let answer = hit::watched(&doing, || call.by(calls, memory));
-        let after = Lent { list: list.to_vec(), words: words.to_vec(), place: place.to_vec(), page: page.to_vec() };
+        let (list, words, place) = (list.to_vec(), words.to_vec(), place.to_vec());
+        let after = Lent { list, words, place, next: next.to_vec(), page: page.to_vec() };
         let kept = lent_sheet == sheet && legs == lists.legs && waypoints == lists.waypoints && slopes == lists.slopes && second == other;
         self.tally.check(Part::Memory, kept, || format!("{} {call:?} wrote its lists or a sheet, of {}", calls.name, hex(sheet)));
         (answer, after)
@@ -124,13 +128,19 @@ impl Comparison {
         (answer, after)
     }
 
-    /// Compares the Rust wrapper's answer to the same call; it always has room. A kind above 2 cannot be said there.
+    /// Compares the Rust wrapper's answer to the same call; it always has room. A kind above 2 cannot be said there, nor a number behind a
+    /// fleet's last seat, and the next turn takes the turn's place.
     pub fn compare_wrapper(&mut self, call: &Call, sheet: &[u8], before: &Lent) {
         if let Call::Write(Lists { kind: 3.., .. }) = call {
             return;
         }
         let mut model = Lent { place: vec![0; 3], ..before.clone() };
-        model.words.resize(3, 0);
+        if let Call::Round { turn } = *call {
+            model.words.truncate(before.words.len() / 2 * 2);
+            model.next = vec![turn];
+        } else {
+            model.words.resize(3, 0);
+        }
         let mut got = model.clone();
         let answer = match by_wrapper(call, sheet, &mut got) {
             Ok(()) => (0, ""),
@@ -158,6 +168,9 @@ fn by_wrapper(call: &Call, sheet: &[u8], lent: &mut Lent) -> Result<(), Refusal>
         Call::Back => moved(sheet, &mut lent.words, wrapper::back),
         Call::Write(ref lists) => wrapper::write(lists, &mut lent.page).map(|length| lent.words[0] = length as u64),
         Call::Join(ref second) => wrapper::join(sheet, second, &mut lent.page).map(|length| lent.words[0] = length as u64),
+        Call::Round { .. } => {
+            wrapper::round(sheet, &lent.list, &mut lent.words, &mut lent.next[0]).map(|place| lent.place = place.to_vec())
+        }
     }
 }
 

@@ -6,11 +6,13 @@
 
 mod compare;
 mod distance;
+mod fleets;
 mod header;
 mod hit;
 mod joins;
 mod mirrors;
 mod parts;
+mod rounds;
 mod sheets;
 mod ticks;
 mod walks;
@@ -72,6 +74,7 @@ fn main() {
     let exact = distance::by_exact_spline(&options, &mut comparison);
     ticks::run(&options, &mut comparison);
     walks::run(&options, &mut comparison);
+    rounds::run(&options, &mut comparison);
     years::run(&options, &mut comparison);
 
     let passed = comparison.tally.closed();

@@ -50,12 +50,14 @@ pub enum Part {
     OpenEnds,
     /// Steps and backs in random order against a count (M7, M8).
     Walks,
+    /// Fleets of 1 to 33 seats flown round after round, each seat against a runner of its own (Q2 to Q6).
+    Rounds,
     /// One runner moved on for ten years, and back for one.
     OnFoot,
 }
 
 /// The parts' names, in the order above.
-pub const NAMES: [&str; 24] = [
+pub const NAMES: [&str; 25] = [
     "worked",
     "header",
     "calls",
@@ -79,6 +81,7 @@ pub const NAMES: [&str; 24] = [
     "backs",
     "open-ends",
     "walks",
+    "rounds",
     "on-foot",
 ];
 

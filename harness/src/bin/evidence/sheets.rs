@@ -2,7 +2,7 @@
 
 use crate::compare::{Comparison, ALL};
 use crate::parts::Part;
-use crate::{joins, mirrors, writes, Options};
+use crate::{fleets, joins, mirrors, writes, Options};
 use harness::boundary::{Call, Lent, NAMES, TESTS};
 use harness::fence::Stand;
 use harness::lists;
@@ -71,7 +71,7 @@ pub fn lent(random: &mut Random, list: usize, words: usize, place: usize) -> Len
         list: (0..list).map(|_| random.word() as i64).collect(),
         words: (0..words).map(|_| random.word()).collect(),
         place: (0..place).map(|_| random.word() as i64).collect(),
-        page: vec![],
+        ..Lent::default()
     }
 }
 
@@ -95,8 +95,8 @@ pub fn try_call(random: &mut Random, comparison: &mut Comparison, call: Call, sh
 /// Each call that gets one sheet once, with anything lent.
 fn on_refused(random: &mut Random, comparison: &mut Comparison, sheet: &[u8]) {
     let list = random.pick(&[0, 1, 6, 9, 40, 1536]);
-    let (words, place) = (random.below(5), random.below(5));
-    let before = lent(random, list, words, place);
+    let (words, place, next) = (random.below(5), random.below(5), random.below(2));
+    let before = Lent { next: vec![random.word(); next], ..lent(random, list, words, place) };
     let (tick, leg, offset) = (random.any_size(), random.any_size(), random.any_size());
     let calls = [
         Call::Read,
@@ -106,6 +106,7 @@ fn on_refused(random: &mut Random, comparison: &mut Comparison, sheet: &[u8]) {
         Call::RunnerAtTick { tick },
         Call::Step,
         Call::Back,
+        Call::Round { turn: random.below(3) as u64 },
     ];
     for call in calls {
         try_call(random, comparison, call, sheet, &before);
@@ -132,6 +133,7 @@ fn on_accepted(random: &mut Random, comparison: &mut Comparison, sheet: &[u8], c
     for _ in 0..3 {
         places(random, comparison, sheet, course, &own);
         runners(random, comparison, sheet, course);
+        fleets::run(random, comparison, sheet, course, &own);
     }
 }
 
@@ -174,7 +176,7 @@ fn short(random: &mut Random, need: usize) -> usize {
 }
 
 /// The sheet's own bend numbers, or changed ones: one at the limit or beyond it, all random, or too few.
-fn bend_list(random: &mut Random, own: &[i64], need: usize) -> Vec<i64> {
+pub fn bend_list(random: &mut Random, own: &[i64], need: usize) -> Vec<i64> {
     const LIMIT: i64 = 1 << 37;
     let mut list = own.to_vec();
     match random.below(8) {
@@ -208,7 +210,7 @@ fn tick(random: &mut Random, course: &Course) -> u64 {
 }
 
 /// A runner that fits, or is at an end of its leg, or is adrift.
-fn runner(random: &mut Random, course: &Course) -> [u64; 2] {
+pub fn runner(random: &mut Random, course: &Course) -> [u64; 2] {
     let l = course.legs.len();
     let leg = match random.below(12) {
         0 => return [random.any_size(), random.any_size()],

@@ -101,7 +101,7 @@ fn expect(
 
 pub fn run(comparison: &mut Comparison) {
     comparison.part = Part::Worked;
-    let lent = |list: Vec<i64>| Lent { list, words: vec![u64::MAX; 3], place: vec![i64::MAX; 3], page: vec![] };
+    let lent = |list: Vec<i64>| Lent { list, words: vec![u64::MAX; 3], place: vec![i64::MAX; 3], ..Lent::default() };
 
     for (draft, bends, places) in courses() {
         let sheet = draft.bytes();
@@ -134,6 +134,8 @@ pub fn run(comparison: &mut Comparison) {
     going_back(comparison);
     joining(comparison);
     around_sixteen_legs(comparison);
+    rounds_of_two(comparison);
+    rounds_refused(comparison);
     println!("worked courses: {} comparisons with the figures of group W", comparison.tally.compared(Part::Worked));
 }
 
@@ -289,4 +291,54 @@ fn around_sixteen_legs(comparison: &mut Comparison) {
     for (sheet, tick, wanted) in figures {
         expect(comparison, &Call::RunnerAtTick { tick }, sheet, &before, wanted.to_string(), runner);
     }
+}
+
+/// A sheet with its own bend numbers.
+fn laid_out(comparison: &mut Comparison, draft: &Draft) -> (Vec<u8>, Vec<i64>) {
+    let sheet = draft.bytes();
+    let before = Lent { list: vec![0; 3 * draft.points.len()], ..Lent::default() };
+    let (_, after) = comparison.compare(&Call::LayOut, &sheet, &before);
+    (sheet, after.list)
+}
+
+/// One round; its answer, place (-1 where none comes), next turn (77 where none comes) and the fleet that it leaves.
+fn served(comparison: &mut Comparison, (sheet, list): (&[u8], &[i64]), fleet: &[u64], turn: u64, wanted: &str) -> Vec<u64> {
+    let before = Lent { list: list.to_vec(), words: fleet.to_vec(), place: vec![-1; 3], next: vec![77], ..Lent::default() };
+    let left = |answer, after: &Lent| format!("{answer} {:?} {:?} {:?}", after.place, after.next, after.words);
+    expect(comparison, &Call::Round { turn }, sheet, &before, wanted.to_string(), left).words
+}
+
+/// W18: two seats on course A, and a seat on W7's square that goes round.
+fn rounds_of_two(comparison: &mut Comparison) {
+    let (a, list) = laid_out(comparison, &course_a());
+    let fleet = served(comparison, (&a, &list), &[0, 0, 1, 1], 0, "0 [6, 10, 21] [1] [0, 1, 1, 1]");
+    let fleet = served(comparison, (&a, &list), &fleet, 1, "0 [0, 10, 24] [0] [0, 1, 1, 2]");
+    let fleet = served(comparison, (&a, &list), &fleet, 1, "13 [-1, -1, -1] [0] [0, 1, 1, 2]");
+    served(comparison, (&a, &list), &fleet, 0, "0 [8, 10, 22] [1] [1, 0, 1, 2]");
+    let (square, list) = laid_out(comparison, &Draft::of(CLOSED, &[2; 4], &[0, 6, 0, -6], None));
+    served(comparison, (&square, &list), &[3, 1], 0, "0 [0, 0, 0] [0] [0, 0]");
+}
+
+/// W18: what course A's rounds are refused by, in A14's order; 12 is asked of the leg stepped onto, not of the one just left.
+fn rounds_refused(comparison: &mut Comparison) {
+    let (a, list) = laid_out(comparison, &course_a());
+    let bad = |waypoint: usize| (0..9).map(|i| if i == waypoint { (1 << 37) + 1 } else { list[i] }).collect::<Vec<i64>>();
+    let (first, last) = (bad(0), bad(2));
+    let on = |list| (&a[..], list);
+    // a number behind the last seat stays, and counts for none
+    served(comparison, on(&list[..]), &[0, 0, 1, 1, 5], 1, "0 [0, 10, 24] [0] [0, 0, 1, 2, 5]");
+    served(comparison, on(&list), &[0, 2, 1, 1], 0, "11 [-1, -1, -1] [1] [0, 2, 1, 1]");
+    served(comparison, on(&first), &[0, 1], 0, "0 [8, 10, 22] [0] [1, 0]");
+    served(comparison, on(&first), &[0, 0], 0, "12 [-1, -1, -1] [0] [0, 0]");
+    served(comparison, on(&last), &[0, 0], 0, "0 [6, 10, 21] [0] [0, 1]");
+    served(comparison, on(&last), &[0, 1], 0, "12 [-1, -1, -1] [0] [0, 1]");
+    served(comparison, on(&last), &[1, 2], 0, "13 [-1, -1, -1] [0] [1, 2]");
+    served(comparison, on(&list), &[0, 0, 1, 1], 2, "20 [-1, -1, -1] [77] [0, 0, 1, 1]");
+    served(comparison, on(&list), &[0], 0, "19 [-1, -1, -1] [77] [0]");
+    served(comparison, on(&list[..8]), &[], 0, "9 [-1, -1, -1] [77] []");
+    served(comparison, (&a[1..], &list[..8]), &[0, 0], 1, "1 [-1, -1, -1] [77] [0, 0]");
+    let fleet = [1; 66];
+    served(comparison, on(&list), &fleet, 33, &format!("19 [-1, -1, -1] [77] {fleet:?}"));
+    let moved = [&fleet[..63], &[2]].concat();
+    served(comparison, on(&list), &fleet[..64], 31, &format!("0 [0, 10, 24] [0] {moved:?}"));
 }

@@ -2,7 +2,7 @@
 
 use harness::model::Lists;
 pub use harness::station::Refusal;
-use harness::station::{self, EndKind, Runner};
+use harness::station::{self, EndKind, Fleet, Runner};
 
 /// Kind, N, P.
 pub fn read(sheet: &[u8]) -> Result<[u64; 3], Refusal> {
@@ -41,6 +41,18 @@ pub fn back(sheet: &[u8], runner: &mut [u64; 2]) -> Result<(), Refusal> {
     let mut moved = Runner { leg: runner[0], offset: runner[1] };
     let answer = station::back(sheet, &mut moved);
     *runner = [moved.leg, moved.offset];
+    answer
+}
+
+/// North, east, up; the fleet, leg and offset of each seat in turn, and the turn are moved on in place.
+pub fn round(sheet: &[u8], list: &[i64], fleet: &mut [u64], turn: &mut u64) -> Result<[i64; 3], Refusal> {
+    let mut seats: Vec<Runner> = fleet.chunks(2).map(|seat| Runner { leg: seat[0], offset: seat[1] }).collect();
+    let mut lent = Fleet::at(&mut seats, *turn);
+    let answer = lent.round(sheet, list).map(Into::into);
+    *turn = lent.turn();
+    for (record, seat) in fleet.chunks_mut(2).zip(lent.seats()) {
+        record.copy_from_slice(&[seat.leg, seat.offset]);
+    }
     answer
 }
 

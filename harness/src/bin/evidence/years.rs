@@ -85,7 +85,7 @@ fn on_foot(options: &Options, comparison: &mut Comparison, sheet: &[u8]) {
 fn far_ticks(options: &Options, comparison: &mut Comparison, random: &mut Random, sheet: &[u8]) {
     let Some(course) = comparison.course(sheet) else { return };
     let ticks = course.ticks() as u64;
-    let before = Lent { list: vec![0; 3 * course.n], words: vec![1; 2], place: vec![1; 3], page: vec![] };
+    let before = Lent { list: vec![0; 3 * course.n], words: vec![1; 2], place: vec![1; 3], ..Lent::default() };
     let (_, laid_out) = comparison.compare(&Call::LayOut, sheet, &before);
     for case in 0..(options.cases / 100).max(10) {
         comparison.case = case;
