@@ -1,12 +1,12 @@
 -- From what is promised of one seat's turn to what is promised of the list: the seat's record is set, and where the turn is no seat's the list is as it was.
 use mathlib.Core.Path.{_≡_, refl, sym, ap, _∙_}
 use mathlib.Core.List.{List, [], _∷_}
-use Prim.Native.Nat.{ℕ, zero, suc, _*_, _^_, _≤_, _<_}
+use Prim.Native.Nat.{ℕ, _*_, _^_, _≤_, _<_}
 use native.Mathlib.Nat.{mul-le-mul-right, le-of-lt}
 use native.Mathlib.Omega.{arith}
 use lib.IntN.{ℤ, pos}
-use lib.ListN.{length, getD, set, replicate, List·getD-eq-default}
-use lib.Seq.{set-out}
+use lib.ListN.{length, set, replicate, List·getD-eq-default}
+use lib.Seq.{set-out, set-getD}
 use Rattle.sheet.specs.Bytes.{be16, be32, signed32, anyBelow, sumBelow}
 use Rattle.sheet.specs.Reading.{readBy}
 use Rattle.answers.proofs.Guards.{number-keeps}
@@ -32,16 +32,10 @@ other-tried = refl
 pub place-fits : (size t n : ℕ) → t < n → n * size < 2 ^ 63 → t * size < 2 ^ 64
 place-fits size t n h room = omega (arith, mul-le-mul-right size (le-of-lt h))
 
--- an element set to what it is
-set-again : {A : Type 0} (l : List A) (i : ℕ) (d : A) → set l i (getD l i d) ≡ l
-set-again [] i d = refl
-set-again (x ∷ xs) zero d = refl
-set-again (x ∷ xs) (suc i) d = ap (λ ys. x ∷ ys) (set-again xs i d)
-
 -- A9: a refused round leaves every record as it was
 pub fleet-kept : (s : List ℕ) (list : List ℤ) (fleet : List Runner) (t : ℕ) → ¬ (roundAnswer s list fleet t .number ≡ 0) → fleetAfter s list fleet t ≡ fleet
 unfolding fleetAfter seatAfter
-fleet-kept s list fleet t h = ap (set fleet t) (number-keeps (roundAnswer s list fleet t) (moved s (seatOf fleet t)) (seatOf fleet t) h) ∙ set-again fleet t nobody
+fleet-kept s list fleet t h = ap (set fleet t) (number-keeps (roundAnswer s list fleet t) (moved s (seatOf fleet t)) (seatOf fleet t) h) ∙ set-getD fleet t nobody
 
 -- what `turned_away` promises, and what the round does, of the records that it finds and those that it leaves
 abbrev pub Away : List ℕ → List ℤ → ℕ → ℕ → RoundAnswer → Type 0

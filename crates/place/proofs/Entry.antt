@@ -1,4 +1,4 @@
--- What the two entry points share: the first two links of their chain, reading's refusal and 9; and what is known behind them, as `Fitting` says.
+-- What the two entry points share: the first two links of their chain, reading's refusal and 9; and what is known behind them, as `Fitting` says. Crate seat begins with the same two.
 use mathlib.Core.Path.{_≡_, sym, ap, _∙_}
 use mathlib.Core.Bool.{Bool, true, false}
 use mathlib.Core.List.{List}

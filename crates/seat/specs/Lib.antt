@@ -1,3 +1,3 @@
--- One seat's turn; what the functions inside ask for; then worked turns.
+-- One seat's turn; what the functions inside ask for.
 pub mod Serving
 pub mod Asked
