@@ -11,7 +11,7 @@ use Rattle.sheet.proofs.Laws.{accepted-read, read-or-refused}
 use Rattle.sheet.specs.Answers.{Told, numberOf}
 use Rattle.sheet.specs.Reading.{Accepted, applies, mostPoints, readSheet}
 use Rattle.sheet.specs.declared.Refusal.{Refusal}
-use Rattle.sheet.specs.declared.Refusal.the-variants.{Torn, Edition, Ends, Points, Size, Leg, Reach, Slope, Shelf, Past, Adrift, Bend, Landed, Page, Start, Shut, Apart, Crowded, Seats, Turn}
+use Rattle.sheet.specs.declared.Refusal.the-variants.{Torn, Edition, Ends, Points, Size, Leg, Reach, Slope, Shelf, Past, Adrift, Bend, Landed, Page, Start, Shut, Apart, Crowded, Seats, Turn, Grain, Ink}
 use Rattle.answers.proofs.Guards.{not-refused, not-passed-on, done-changes}
 use Rattle.answers.specs.Answers.{done, passOn, guard}
 use Rattle.layout.specs.Layout.{short}
@@ -47,6 +47,8 @@ reading-shuts s Apart e = absurd (false≢true e)
 reading-shuts s Crowded e = absurd (false≢true e)
 reading-shuts s Seats e = absurd (false≢true e)
 reading-shuts s Turn e = absurd (false≢true e)
+reading-shuts s Grain e = absurd (false≢true e)
+reading-shuts s Ink e = absurd (false≢true e)
 
 -- one test of such a number was passed
 not-shut : (b : Bool) (q : Refusal) (rest : Told) → shutOut (numberOf q) ≡ true → shutOut (guard b q rest .number) ≡ false → (b ≡ false) × (shutOut (rest .number) ≡ false)

@@ -19,7 +19,7 @@ use Rattle.sheet.specs.Fields.{kind, points, legs, leg, ticks, waypoint,
 use Rattle.sheet.specs.Reading.{Accepted, legOutside, reachOutside, slopeOutside, slopesOutside, applies, lowest, mostPoints, longestSheet, readBy, readSheet}
 use Rattle.sheet.specs.Theorems.{ReadOrRefused, ReadAccepted, AcceptedBounds, HeightsKept}
 use Rattle.sheet.specs.declared.Refusal.{Refusal}
-use Rattle.sheet.specs.declared.Refusal.the-variants.{Torn, Edition, Ends, Points, Size, Leg, Reach, Slope, Shelf, Past, Adrift, Bend, Landed, Page, Start, Shut, Apart, Crowded, Seats, Turn}
+use Rattle.sheet.specs.declared.Refusal.the-variants.{Torn, Edition, Ends, Points, Size, Leg, Reach, Slope, Shelf, Past, Adrift, Bend, Landed, Page, Start, Shut, Apart, Crowded, Seats, Turn, Grain, Ink}
 use Rattle.sheet.specs.declared.Reading.{Reading}
 use Rattle.sheet.specs.declared.Reading.the-variants.{Course, Refused}
 use Rattle.sheet.proofs.Below.{or-left, or-right, any-none, sum-at-most, sum-at-least}
@@ -132,6 +132,8 @@ passing-accepted s p Apart h = refl
 passing-accepted s p Crowded h = refl
 passing-accepted s p Seats h = refl
 passing-accepted s p Turn h = refl
+passing-accepted s p Grain h = refl
+passing-accepted s p Ink h = refl
 
 -- ---- the bounds: each is what the test of its number leaves
 module _ (s : List ℕ) (a : Accepted s) where

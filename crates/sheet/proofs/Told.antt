@@ -12,7 +12,7 @@ use Rattle.integers.proofs.Order.{le-or-lt}
 use Rattle.sheet.specs.Answers.{numberOf, told, Told}
 use Rattle.sheet.specs.Fields.{kindOf}
 use Rattle.sheet.specs.declared.Refusal.{Refusal}
-use Rattle.sheet.specs.declared.Refusal.the-variants.{Torn, Edition, Ends, Points, Size, Leg, Reach, Slope, Shelf, Past, Adrift, Bend, Landed, Page, Start, Shut, Apart, Crowded, Seats, Turn}
+use Rattle.sheet.specs.declared.Refusal.the-variants.{Torn, Edition, Ends, Points, Size, Leg, Reach, Slope, Shelf, Past, Adrift, Bend, Landed, Page, Start, Shut, Apart, Crowded, Seats, Turn, Grain, Ink}
 use Rattle.sheet.specs.declared.Reading.{Reading}
 use Rattle.sheet.specs.declared.Reading.the-variants.{Course, Refused}
 
@@ -20,7 +20,7 @@ use Rattle.sheet.specs.declared.Reading.the-variants.{Course, Refused}
 refusalOf : ℕ → Refusal
 refusalOf n =
     getD (Torn ∷ Edition ∷ Ends ∷ Points ∷ Size ∷ Leg ∷ Reach ∷ Slope ∷ Shelf ∷ Past ∷ Adrift ∷ Bend ∷ Landed ∷ Page ∷ Start
-    ∷ Shut ∷ Apart ∷ Crowded ∷ Seats ∷ Turn ∷ []) (n - 1) Torn
+    ∷ Shut ∷ Apart ∷ Crowded ∷ Seats ∷ Turn ∷ Grain ∷ Ink ∷ []) (n - 1) Torn
 
 refusal-back : (r : Refusal) → refusalOf (numberOf r) ≡ r
 unfolding refusalOf
@@ -44,6 +44,8 @@ refusal-back Apart = refl
 refusal-back Crowded = refl
 refusal-back Seats = refl
 refusal-back Turn = refl
+refusal-back Grain = refl
+refusal-back Ink = refl
 
 pub number-injective : (q r : Refusal) → numberOf q ≡ numberOf r → q ≡ r
 number-injective q r e = sym (refusal-back q) ∙ ap refusalOf e ∙ refusal-back r

@@ -14,7 +14,7 @@ use Rattle.sheet.specs.Answers.{numberOf}
 use Rattle.sheet.specs.Bytes.{anyBelow}
 use Rattle.sheet.specs.Fields.{lengthField, version, kindField, kind, points, legs, leg, ticks, waypoint, slope, sheetLength}
 use Rattle.sheet.specs.declared.Refusal.{Refusal}
-use Rattle.sheet.specs.declared.Refusal.the-variants.{Torn, Edition, Ends, Points, Size, Leg, Reach, Slope, Shelf, Past, Adrift, Bend, Landed, Page, Start, Shut, Apart, Crowded, Seats, Turn}
+use Rattle.sheet.specs.declared.Refusal.the-variants.{Torn, Edition, Ends, Points, Size, Leg, Reach, Slope, Shelf, Past, Adrift, Bend, Landed, Page, Start, Shut, Apart, Crowded, Seats, Turn, Grain, Ink}
 use Rattle.sheet.specs.declared.Reading.{Reading}
 use Rattle.sheet.specs.declared.Reading.the-variants.{Course, Refused}
 
@@ -40,7 +40,7 @@ slopesOutside Free s = false
 slopesOutside Held s = anyBelow (λ side. anyBelow (λ axis. slopeOutside (slope s axis side)) 3) 2
 slopesOutside Closed s = false
 
--- when each number applies to a sheet. `most` is the largest N. N9 to N20 ask about more than the sheet, and reading does not test them.
+-- when each number applies to a sheet. `most` is the largest N. N9 to N22 ask about more than the sheet, and reading does not test them.
 abbrev pub applies : ℕ → List ℕ → Refusal → Bool
 -- N1: too short, or not as long as it states
 applies most s Torn = ltb (length s) 8 || not (eqb (lengthField s) (length s))
@@ -58,7 +58,7 @@ applies most s Leg = anyBelow (λ i. legOutside (leg s i)) (legs s)
 applies most s Reach = anyBelow (λ i. anyBelow (λ axis. reachOutside axis (waypoint s axis i)) 3) (points s)
 -- N8: some slope
 applies most s Slope = slopesOutside (kind s) s
--- N9 to N20
+-- N9 to N22
 applies most s Shelf = false
 applies most s Past = false
 applies most s Adrift = false
@@ -71,6 +71,8 @@ applies most s Apart = false
 applies most s Crowded = false
 applies most s Seats = false
 applies most s Turn = false
+applies most s Grain = false
+applies most s Ink = false
 
 abbrev pub refuseIf : Bool → Refusal → Reading → Reading
 refuseIf true r answer = Refused r

@@ -32,7 +32,7 @@ pub const STRIDE: usize = 16;
 
 pub const SUMS: usize = 33;
 
-// The refusals, in the order of their numbers (N1 to N20).
+// The refusals, in the order of their numbers (N1 to N22).
 pub enum Refusal {
     Torn,
     Edition,
@@ -54,6 +54,8 @@ pub enum Refusal {
     Crowded,
     Seats,
     Turn,
+    Grain,
+    Ink,
 }
 
 // A2: reading's answer, the kind, N and P; or its refusal.

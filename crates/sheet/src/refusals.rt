@@ -3,7 +3,7 @@ ghost use mathlib.Core.Path.{_≡_};
 ghost use Rattle.sheet.specs.Answers.{numberOf};
 use crate::Refusal;
 
-// N1 to N20.
+// N1 to N22.
 pub fn number_of(refusal: Refusal) -> u64
     ensures { λ r. ⌜ r ≡ numberOf refusal ⌝ }
 {
@@ -28,5 +28,7 @@ pub fn number_of(refusal: Refusal) -> u64
         Refusal::Crowded => 18,
         Refusal::Seats => 19,
         Refusal::Turn => 20,
+        Refusal::Grain => 21,
+        Refusal::Ink => 22,
     }
 }

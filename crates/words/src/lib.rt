@@ -39,6 +39,8 @@ pub fn put_refusal(out: &mut [u8], refusal: Refusal) -> usize
                  refused 17 apart\n  \
                  refused 18 crowded\n\
                  refused 19 seats\n  \
-                 refused 20 turn\n   ";
+                 refused 20 turn\n   \
+                 refused 21 grain\n  \
+                 refused 22 ink\n    ";
     put_row(rows, refusal, out)
 }
