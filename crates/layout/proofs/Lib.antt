@@ -6,6 +6,6 @@ mod Rows
 mod Passes
 mod Sweep
 mod Fill
-mod Parts
+pub mod Parts
 pub mod Outcomes
 pub mod Near

@@ -1,15 +1,17 @@
-// The place by tick and the place by runner (group P). For the fleet too, which asks for the place of a seat.
+// The place by tick and the place by runner (group P). For the fleet too, which asks for the place of a seat, and for strokes, which go along the places of a leg.
 mod axis;
 mod bends;
-mod position;
+pub mod position;
 
 ghost use mathlib.Core.Path.{_≡_};
 ghost use Rattle.sheet.specs.Answers.{refused};
 ghost use Rattle.place.specs.Asked.{Fitting};
 ghost use Rattle.place.specs.Places.{toldPlaced, placeHeld, bendOrPlace, placeAtTick, placeOfRunner};
 use answers::Outcome;
+pub use axis::LegNumbers;
+pub use axis::numbers_on;
 use axis::place_on;
-use bends::bend_outside;
+pub use bends::bend_outside;
 pub use bends::is_short;
 use runner::Runner;
 use sheet::Reading;
