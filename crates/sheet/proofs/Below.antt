@@ -1,10 +1,11 @@
 -- Laws of the questions and sums over 0, .., n - 1 (specs/Bytes): one more, what an answer tells of each, and bounds.
 use mathlib.Core.Path.{_≡_, refl, sym, ap, _∙_}
-use mathlib.Core.Bool.{Bool, true, false, _||_, or-true, or-false, or-assoc}
+use mathlib.Core.Bool.{Bool, true, false, _||_, or-true, or-false, or-assoc, false≢true}
 use Prim.Native.Nat.{ℕ, zero, suc, _+_, _*_, _≤_, _<_}
 use native.Mathlib.Nat.{add-zero}
 use native.Mathlib.Numerals.{add-one}
 use native.Mathlib.Omega.{arith}
+use borrow.Table.Steps.{cases}
 use Rattle.integers.proofs.Order.{le-or-lt}
 use Rattle.sheet.specs.Bytes.{anyBelow, sumBelow}
 
@@ -51,6 +52,17 @@ any-one p (suc n) i h e =
     le-or-lt n i (anyBelow p (suc n) ≡ true)
     (λ k. let q : i ≡ n = omega arith in rw (← q, e, or-true))
     (λ k. rw (any-one p n i k e))
+
+-- asked of all and held: there is one of which it holds
+pub any-which : (p : ℕ → Bool) (n : ℕ) → anyBelow p n ≡ true → (i : ℕ) × (i < n) × (p i ≡ true)
+unfolding anyBelow
+any-which p zero e = absurd (false≢true e)
+any-which p (suc n) e =
+    cases (p n)
+    (λ h. (n, omega arith, h))
+    (λ h.
+    let r = any-which p n (sym (or-false (anyBelow p n)) ∙ ap (λ (b : Bool). anyBelow p n || b) (sym h) ∙ e) in
+    (r .0, omega (arith, r .1), r .2))
 
 -- of 0, .., m - 1 it holds: of more as well
 pub any-more : (p : ℕ → Bool) (m n : ℕ) → m ≤ n → anyBelow p m ≡ true → anyBelow p n ≡ true
