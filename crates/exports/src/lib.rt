@@ -10,6 +10,7 @@ use seat::NextTurn;
 use sheet::Reading;
 use sheet::Refusal;
 use sheet::number_of;
+use strokes::StrokesAnswer;
 ghost use mathlib.Core.Path.{_≡_};
 ghost use mathlib.Core.List.{[], _∷_};
 ghost use lib.ListN.{length};
@@ -28,6 +29,7 @@ ghost use Rattle.place.specs.Places.{toldPlaced, placeAtTick, placeOfRunner};
 ghost use Rattle.seat.specs.Serving.{toldNext};
 ghost use Rattle.fleet.specs.Round.{roundAnswer, turnGiven};
 ghost use Rattle.fleet.specs.Numbers.{records, numbersAfter};
+ghost use Rattle.strokes.specs.Strokes.{toldStrokes, strokesAnswer, drawnInto};
 ghost use Rattle.exports.specs.Written.{put, written, writtenUnsigned, noRunner, movedSlice};
 
 // S4: the number of a kind.
@@ -298,4 +300,34 @@ pub extern "C" fn station_join(
     ensures out { λ r. ⌜ now (out .exit) ≡ writtenUnsigned (joinSheets (now (first .entry)) (now (second .entry)) (length (now (sheet .entry)))) (now (out .entry)) ⌝ }
 {
     tell_written(join::join(first, second, sheet), out)
+}
+
+// How many ends into the slice, or the refusal's number.
+fn tell_strokes(answer: StrokesAnswer, out: &mut [u64]) -> u64
+    ensures answer { λ r. ⌜ r ≡ toldStrokes answer .number ⌝ }
+    ensures out { λ r. ⌜ now (out .exit) ≡ writtenUnsigned (toldStrokes answer) (now (out .entry)) ⌝ }
+{
+    match answer {
+        StrokesAnswer::Ends(count) => {
+            put_one(out, count as u64);
+            0
+        }
+        StrokesAnswer::Refused(r) => number_of(r),
+    }
+}
+
+// out = how many stroke ends stand at the front of `ends`; they are written there whether or not `out` has room
+#[no_mangle]
+pub extern "C" fn station_strokes(
+    sheet: &[u8],
+    list: &[i64],
+    tolerance: i64,
+    ends: &mut [u64],
+    out: &mut [u64],
+) -> u64
+    ensures answer { λ r. ⌜ r ≡ strokesAnswer (now (sheet .entry)) (now (list .entry)) tolerance (length (now (ends .entry))) .number ⌝ }
+    ensures ends { λ r. ⌜ now (ends .exit) ≡ drawnInto (now (sheet .entry)) (now (list .entry)) tolerance (now (ends .entry)) ⌝ }
+    ensures out { λ r. ⌜ now (out .exit) ≡ writtenUnsigned (strokesAnswer (now (sheet .entry)) (now (list .entry)) tolerance (length (now (ends .entry)))) (now (out .entry)) ⌝ }
+{
+    tell_strokes(strokes::strokes(sheet, list, tolerance, ends), out)
 }
