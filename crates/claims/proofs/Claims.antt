@@ -31,6 +31,11 @@ use Rattle.flights.proofs.Worked.{rounds-tried}
 use Rattle.flights.proofs.Once.{every-seat-once}
 use Rattle.flights.proofs.Apart.{others-kept, seats-apart}
 use Rattle.flights.proofs.Flown.{turns-move, served-near, flying-served}
+use Rattle.stretch.proofs.Theorems.{kept-or-cut, eight-cuts}
+use Rattle.drawn.proofs.PlacesGiven.{places-given}
+use Rattle.drawn.proofs.Drawn.{strokes-drawn, room-for-all}
+use Rattle.drawn.proofs.Near.{own-drawn, strokes-near}
+use Rattle.drawn.proofs.Worked.{strokes-tried}
 use Rattle.place.proofs.Waypoints.{tick-is-runner, leg-ends-met, waypoint-met-at-tick, waypoint-met-by-runner}
 use Rattle.station.proofs.Claim.{claim}
 use Rattle.station.proofs.Own.{own-laid}
@@ -46,7 +51,7 @@ use Rattle.lines.proofs.Room.{line-short}
 use Rattle.output.proofs.Answered.{accepted-output, every-tick}
 use Rattle.output.proofs.Worked.{course-a, leg-refused}
 use Rattle.claims.specs.Claims.{Claims}
-use Rattle.claims.proofs.Refused.{refusal-passed-on, refused-keeps-list, refused-keeps-record, refused-keeps-fleet, refused-keeps-slice}
+use Rattle.claims.proofs.Refused.{refusal-passed-on, refused-keeps-list, refused-keeps-record, refused-keeps-fleet, refused-keeps-ends, refused-keeps-slice}
 
 pub claims : Claims
 claims = record {
@@ -57,6 +62,7 @@ claims = record {
     refused-keeps-list = refused-keeps-list;
     refused-keeps-record = refused-keeps-record;
     refused-keeps-fleet = refused-keeps-fleet;
+    refused-keeps-ends = refused-keeps-ends;
     refused-keeps-slice = refused-keeps-slice;
   };
   demand2 = record {
@@ -66,6 +72,7 @@ claims = record {
     step-before = step-before;
     back-behind = back-behind;
     crowded-where-more = crowded-where-more;
+    room-for-all = room-for-all;
     tick-is-runner = tick-is-runner;
     joined-where-few = joined-where-few;
     row-gap = row-gap;
@@ -98,6 +105,10 @@ claims = record {
     seats-apart = seats-apart;
     every-seat-once = every-seat-once;
     turns-move = turns-move;
+    places-given = places-given;
+    kept-or-cut = kept-or-cut;
+    eight-cuts = eight-cuts;
+    strokes-drawn = strokes-drawn;
     accepted-output = accepted-output;
     every-tick = every-tick;
     line-one = line-one;
@@ -117,6 +128,7 @@ claims = record {
     mirror-tried = mirror-tried;
     search-tried = search-tried;
     rounds-tried = rounds-tried;
+    strokes-tried = strokes-tried;
     chord-not-near = chord-not-near;
   };
   demand3 = claim;
@@ -124,6 +136,8 @@ claims = record {
   joined-near = joined-near;
   served-near = served-near;
   flying-served = flying-served;
+  own-drawn = own-drawn;
+  strokes-near = strokes-near;
   theory = record {
     solvable = solvable;
     unique = unique;

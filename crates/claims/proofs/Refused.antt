@@ -15,10 +15,11 @@ use Rattle.place.specs.Places.{placeAtTick, placeOfRunner}
 use Rattle.seat.specs.Serving.{admitted, nextTurn, served, turnAfter}
 use Rattle.fleet.proofs.Lent.{fleet-kept}
 use Rattle.fleet.proofs.Pairs.{numbers-kept}
-use Rattle.claims.specs.Refused.{RefusalPassedOn, RefusedKeepsList, RefusedKeepsRecord, RefusedKeepsFleet, RefusedKeepsSlice}
+use Rattle.strokes.specs.Strokes.{strokesAnswer, drawnInto}
+use Rattle.claims.specs.Refused.{RefusalPassedOn, RefusedKeepsList, RefusedKeepsRecord, RefusedKeepsFleet, RefusedKeepsEnds, RefusedKeepsSlice}
 
 pub refusal-passed-on : RefusalPassedOn
-unfolding layOut placeAtTick placeOfRunner runnerAtTick stepped backed served turnAfter joinSheets
+unfolding layOut placeAtTick placeOfRunner runnerAtTick stepped backed served turnAfter strokesAnswer joinSheets
 refusal-passed-on s q e = record {
   laying = λ room. rw e;
   by-tick = λ list t. rw e;
@@ -27,6 +28,7 @@ refusal-passed-on s q e = record {
   step = λ r. rw e;
   back = λ r. rw e;
   round = λ list fleet t. let k = length fleet in (rw e, refused-keeps (admitted s list k t done) (nextTurn k t ∷ []) [] q (rw e));
+  strokes = λ list tolerance room. rw e;
   join-first = λ t room. rw e;
   join-second = λ t room a. sym (read-on t a _) ∙ rw e;
 }
@@ -41,6 +43,10 @@ refused-keeps-record s r = (number-keeps (stepped s r) (moved s r) r, number-kee
 
 pub refused-keeps-fleet : RefusedKeepsFleet
 refused-keeps-fleet s list t = ((λ fleet. fleet-kept s list fleet t), (λ lent. numbers-kept s list lent t))
+
+pub refused-keeps-ends : RefusedKeepsEnds
+unfolding drawnInto
+refused-keeps-ends s list tolerance out = number-keeps (strokesAnswer s list tolerance (length out)) _ out
 
 pub refused-keeps-slice : RefusedKeepsSlice
 unfolding writtenInto joinedInto

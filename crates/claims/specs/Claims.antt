@@ -17,6 +17,9 @@ use Rattle.runner.specs.Restored.{BackBehind, BackTick, BackTicks, BackAfterSte
 use Rattle.runner.specs.Worked.{MovesTried, SearchTried}
 use Rattle.flights.specs.Theorems.{EverySeatOnce, OthersKept, SeatsApart, TurnsMove, ServedNear, FlyingServed}
 use Rattle.flights.specs.Worked.{RoundsTried}
+use Rattle.stretch.specs.Theorems.{KeptOrCut, EightCuts}
+use Rattle.drawn.specs.Theorems.{PlacesGiven, StrokesDrawn, RoomForAll, OwnDrawn, StrokesNear}
+use Rattle.drawn.specs.Worked.{StrokesTried}
 use Rattle.place.specs.Theorems.{LegEndsMet, WaypointMetAtTick, WaypointMetByRunner, TickIsRunner}
 use Rattle.station.specs.Claim.{Claim, OwnLaid}
 use Rattle.courses.specs.Starred.{StarredRight}
@@ -25,7 +28,7 @@ use Rattle.mirror.specs.Theorems.{PassesMirrored, BendsMirrored, PositionMirror
 use Rattle.mirror.specs.Worked.{MirrorTried}
 use Rattle.lines.specs.Theorems.{LineOne, LineMinus, LineShort}
 use Rattle.output.specs.Theorems.{EveryTick, AcceptedOutput, CourseA, LegRefused}
-use Rattle.claims.specs.Refused.{RefusalPassedOn, RefusedKeepsList, RefusedKeepsRecord, RefusedKeepsFleet, RefusedKeepsSlice}
+use Rattle.claims.specs.Refused.{RefusalPassedOn, RefusedKeepsList, RefusedKeepsRecord, RefusedKeepsFleet, RefusedKeepsEnds, RefusedKeepsSlice}
 
 -- D1: a bad input gets its number, and a refused call changes nothing. (That calls end and are safe is proved of every function, by the checker itself.)
 pub record Demand1 : Type 0 where
@@ -39,6 +42,7 @@ pub record Demand1 : Type 0 where
   pub refused-keeps-list : RefusedKeepsList
   pub refused-keeps-record : RefusedKeepsRecord
   pub refused-keeps-fleet : RefusedKeepsFleet
+  pub refused-keeps-ends : RefusedKeepsEnds
   pub refused-keeps-slice : RefusedKeepsSlice
 
 -- D2: rules to the last digit, waypoints met, runners where the count says
@@ -54,6 +58,8 @@ pub record Demand2 : Type 0 where
   pub back-behind : BackBehind
   -- N18: more than 513 waypoints of two sheets that meet are crowded
   pub crowded-where-more : CrowdedWhereMore
+  -- N22, H5: a list of P + 1 places has room for all ends
+  pub room-for-all : RoomForAll
   -- A4, A5: the place by tick is the place of the tick's runner
   pub tick-is-runner : TickIsRunner
   -- A13: two sheets that meet, of no more than 513 waypoints, are joined where there is room
@@ -108,6 +114,13 @@ pub record Demand2 : Type 0 where
   pub every-seat-once : EverySeatOnce
   -- Q6
   pub turns-move : TurnsMove
+  -- H1
+  pub places-given : PlacesGiven
+  -- H3, H6
+  pub kept-or-cut : KeptOrCut
+  pub eight-cuts : EightCuts
+  -- H4 to H6
+  pub strokes-drawn : StrokesDrawn
   -- T2: the output of an accepted sheet, with a line for every tick
   pub accepted-output : AcceptedOutput
   pub every-tick : EveryTick
@@ -140,6 +153,8 @@ pub record Demand2 : Type 0 where
   pub search-tried : SearchTried
   -- W18
   pub rounds-tried : RoundsTried
+  -- W19
+  pub strokes-tried : StrokesTried
   -- K4, K8: zeros in place of bend numbers fail on tenfold A
   pub chord-not-near : ChordNotNear
 
@@ -176,4 +191,7 @@ pub record Claims : Type 0 where
   -- Q7: of a fleet's places
   pub served-near : ServedNear
   pub flying-served : FlyingServed
+  -- H7: of strokes
+  pub own-drawn : OwnDrawn
+  pub strokes-near : StrokesNear
   pub theory : Theory

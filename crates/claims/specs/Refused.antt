@@ -20,6 +20,7 @@ use Rattle.runner.specs.declared.Runner.{Runner}
 use Rattle.place.specs.Places.{placeAtTick, placeOfRunner}
 use Rattle.fleet.specs.Round.{roundAnswer, turnGiven, fleetAfter}
 use Rattle.fleet.specs.Numbers.{records, numbersAfter}
+use Rattle.strokes.specs.Strokes.{strokesAnswer, drawnInto}
 
 -- A8: where reading refuses the sheet, each call answers that refusal and nothing else
 pub record PassedOn (s : List ℕ) (q : Refusal) : Type 0 where
@@ -30,6 +31,7 @@ pub record PassedOn (s : List ℕ) (q : Refusal) : Type 0 where
   pub step : (r : Runner) → stepped s r ≡ refused q
   pub back : (r : Runner) → backed s r ≡ refused q
   pub round : (list : List ℤ) (fleet : List Runner) (t : ℕ) → (roundAnswer s list fleet t ≡ refused q) × (turnGiven s list fleet t ≡ [])
+  pub strokes : (list : List ℤ) (tolerance : ℤ) (room : ℕ) → strokesAnswer s list tolerance room ≡ refused q
   -- as the first of two sheets to be joined, and as the second behind an accepted one
   pub join-first : (t : List ℕ) (room : ℕ) → joinSheets s t room ≡ refused q
   pub join-second : (t : List ℕ) (room : ℕ) → Accepted t → joinSheets t s room ≡ refused q
@@ -50,6 +52,11 @@ abbrev pub RefusedKeepsFleet : Type 0
 RefusedKeepsFleet = (s : List ℕ) (list : List ℤ) (t : ℕ)
     → ((fleet : List Runner) → ¬ (roundAnswer s list fleet t .number ≡ 0) → fleetAfter s list fleet t ≡ fleet)
     × ((lent : List ℕ) → ¬ (roundAnswer s list (records lent) t .number ≡ 0) → numbersAfter s list lent t ≡ lent)
+
+-- .. refused strokes the list lent for their ends ..
+abbrev pub RefusedKeepsEnds : Type 0
+RefusedKeepsEnds = (s : List ℕ) (list : List ℤ) (tolerance : ℤ) (out : List ℕ) → ¬ (strokesAnswer s list tolerance (length out) .number ≡ 0)
+    → drawnInto s list tolerance out ≡ out
 
 -- .. and a refused writing or joining the slice
 abbrev pub RefusedKeepsSlice : Type 0

@@ -1,0 +1,5 @@
+-- The theorems of strokes.
+pub mod PlacesGiven
+pub mod Drawn
+pub mod Near
+pub mod Worked
