@@ -1,19 +1,20 @@
 /* The route station's curve for C99 and later, and C++11 and later: the functions of the proved library libstation.a.
  * `tools/archive` makes the library, `tools/install PREFIX` installs both; examples/fly.c flies a course with them,
- * examples/fleet.c flies several drones on it, examples/join.c joins two courses. N6, A4 and the like are clauses of docs/REQUIREMENTS.md.
+ * examples/fleet.c flies several drones on it, examples/join.c joins two courses, examples/strokes.c draws one by straight strokes. N6, A4
+ * and the like are clauses of docs/REQUIREMENTS.md.
  *
  * Units: ten ticks are a second; north, east and up are millimetres seen from the home post, in whole numbers. N, L and P stand for the
  * counts of waypoints, of legs, and of ticks on all legs together.
  *
- * Answers (A1, A9): STATION_DONE, or the least number of the refusals that this call looks for and finds; joining and the round have orders
- * of their own (A13, A14). A refused call leaves all that it was lent as it was, but for the next turn, which goes with the refusal of a
- * seat (Q3). There is no state behind the calls, no heap, no global variable and no errno; threads may call at the same time.
+ * Answers (A1, A9): STATION_DONE, or the least number of the refusals that this call looks for and finds; joining, the round and strokes
+ * have orders of their own (A13 to A15). A refused call leaves all that it was lent as it was, but for the next turn, which goes with the
+ * refusal of a seat (Q3). There is no state behind the calls, no heap, no global variable and no errno; threads may call at the same time.
  *
  * A slice is a pointer, followed by how many elements there are. Any bytes and numbers may stand in it (D1). The caller owes that
  *   - its pointer is never null, even for no elements, is aligned as its type wants, and reaches over all the elements;
  *   - what a call writes (out; list when laying out; the runner of a step or a back; the sheet when writing or joining; fleet, place and
- *     next of a round) shares no memory with another slice of that call (slices that it only reads may share theirs: a sheet can be joined
- *     with itself);
+ *     next of a round; ends of strokes) shares no memory with another slice of that call (slices that it only reads may share theirs: a
+ *     sheet can be joined with itself);
  *   - no other thread writes a slice during the call.
  * Results fill out (of a round place and next) from its start, and nothing after them is touched. An out that is too short stays as it was
  * although the answer is the same: the functions over structs, further down, cannot be called with a short out.
@@ -22,8 +23,8 @@
  * [measured]
  *   format:           elf64-x86-64, for Linux (System V calls)
  *   outside symbols:  memset
- *   code:             8064 bytes with constants, data 0, zeroed data 0
- *   deepest stack:    401 bytes (read 305, lay_out 384, place_at_tick 385, place_of_runner 401, runner_at_tick 321, step 321, back 321, write 56, join 369, round 385)
+ *   code:             10599 bytes with constants, data 0, zeroed data 0
+ *   deepest stack:    7816 bytes (read 305, lay_out 384, place_at_tick 385, place_of_runner 401, runner_at_tick 321, step 321, back 322, write 56, join 369, round 385, strokes 7816)
  * [/measured]
  */
 #ifndef STATION_H
@@ -38,9 +39,9 @@
  * this one's own (C1), so lay out again. PATCH moves where every answer stays and only time or words move, as in 1.5.1 by how a tick's leg
  * is found (P7). */
 #define STATION_VERSION_MAJOR 1
-#define STATION_VERSION_MINOR 6
+#define STATION_VERSION_MINOR 7
 #define STATION_VERSION_PATCH 0
-#define STATION_VERSION "1.6.0"
+#define STATION_VERSION "1.7.0"
 
 /* Asks gcc and clang to warn where an answer is dropped or a null pointer is handed over; nothing to other compilers. */
 #if defined(__GNUC__)
@@ -75,15 +76,20 @@ enum {
     STATION_APART = 17,   /* N17: the first sheet's last waypoint is not the second's first, on some axis */
     STATION_CROWDED = 18, /* N18: the joined course would have over 512 waypoints */
     STATION_SEATS = 19,   /* N19: the fleet has no seats, or over 32 */
-    STATION_TURN = 20     /* N20: the turn is not below the number of seats */
+    STATION_TURN = 20,    /* N20: the turn is not below the number of seats */
+    STATION_GRAIN = 21,   /* N21: a tolerance below 0 or over 1,000 mm */
+    STATION_INK = 22      /* N22: the list for the ends of strokes is shorter than the answer */
 };
 
 /* The kinds of ends (S4). */
 enum { STATION_FREE = 0, STATION_HELD = 1, STATION_CLOSED = 2 };
 
-/* How long an accepted sheet can be, in bytes (S9), how long a list it can ask for, in numbers (N9), and how many seats a fleet can have
- * (N19): sizes for arrays. */
-enum { STATION_LONGEST_SHEET = 7198, STATION_LONGEST_LIST = 1536, STATION_MOST_SEATS = 32 };
+/* How long an accepted sheet can be, in bytes (S9), how long a list it can ask for, in numbers (N9), how many seats a fleet can have (N19),
+ * and how many ends the strokes of a course can have (H5; of one that is known, P + 1): sizes for arrays. */
+enum { STATION_LONGEST_SHEET = 7198, STATION_LONGEST_LIST = 1536, STATION_MOST_SEATS = 32, STATION_MOST_STROKE_ENDS = 131073 };
+
+/* The greatest tolerance of strokes, in millimetres (N21). */
+enum { STATION_MOST_TOLERANCE = 1000 };
 
 /* Reads a sheet. Tests 1-8 (A2). Results: kind of ends, N, P. */
 STATION_CHECKED uint64_t station_read(const uint8_t *sheet, size_t sheet_length, uint64_t *out, size_t out_length);
@@ -141,6 +147,16 @@ STATION_CHECKED uint64_t station_join(const uint8_t *first, size_t first_length,
 STATION_CHECKED uint64_t station_round(const uint8_t *sheet, size_t sheet_length, const int64_t *list, size_t list_length, uint64_t *fleet,
                                        size_t fleet_length, uint64_t turn, int64_t *place, size_t place_length, uint64_t *next,
                                        size_t next_length);
+
+/* Cuts the course into straight strokes, for a tablet to draw. A stroke joins the places at two ticks of one leg, straight and even in
+ * ticks, and is within the tolerance, in millimetres, of the place at each of its ticks on each axis (H1, H2). A leg for which one stroke
+ * will not do is cut at half its ticks, rounded down, and each half likewise (H3). Results: at the front of ends, whose numbers behind them
+ * stay, the ticks at which strokes begin and end, rising from 0 to P, every waypoint's among them (H4, H5); into out how many these are,
+ * one more than there are strokes. Where out has no place for it, the ends are written all the same. There are at most P + 1 of them:
+ * where ends has so many places, they are not counted first, which saves time. Tests 1-9, 21, 12 at every leg of the course and, last of
+ * all, 22, in this order (A15). */
+STATION_CHECKED uint64_t station_strokes(const uint8_t *sheet, size_t sheet_length, const int64_t *list, size_t list_length,
+                                         int64_t tolerance, uint64_t *ends, size_t ends_length, uint64_t *out, size_t out_length);
 
 /* The same calls with structs for what they answer, for the lists of a sheet, and for the seats of a fleet. */
 
@@ -298,6 +314,18 @@ STATION_CHECKED static inline uint64_t station_round_fleet(const uint8_t *sheet,
     return answer;
 }
 
+/* station_strokes. How many ends there are goes into *count where it is not refused. */
+STATION_CHECKED static inline uint64_t station_strokes_into(const uint8_t *sheet, size_t sheet_length, const int64_t *list,
+                                                            size_t list_length, int64_t tolerance, uint64_t *ends, size_t ends_length,
+                                                            size_t *count)
+{
+    uint64_t out[1] = {0};
+    uint64_t answer = station_strokes(sheet, sheet_length, list, list_length, tolerance, ends, ends_length, out, 1);
+    if (answer == STATION_DONE)
+        *count = (size_t)out[0];
+    return answer;
+}
+
 /* The word of an answer (group N), "done" for STATION_DONE, "unknown" for a number that this header does not name. */
 static inline const char *station_word(uint64_t answer)
 {
@@ -344,6 +372,10 @@ static inline const char *station_word(uint64_t answer)
         return "seats";
     case STATION_TURN:
         return "turn";
+    case STATION_GRAIN:
+        return "grain";
+    case STATION_INK:
+        return "ink";
     default:
         return "unknown";
     }

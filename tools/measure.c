@@ -10,9 +10,10 @@
 #include <string.h>
 #include <ucontext.h>
 
-enum { STACK = 1 << 18, CALLS = 10, JOIN = 8, ROUND = 9, ADDRESS = 8 };
+enum { STACK = 1 << 18, CALLS = 11, JOIN = 8, ROUND = 9, STROKES = 10, ADDRESS = 8 };
 
-/* What is lent to a call: a sheet, the one that is joined to it, the lists it is made from, room for one more; a fleet. */
+/* What is lent to a call: a sheet, the one that is joined to it, the lists it is made from, room for one more; a fleet; a tolerance, and a
+ * list for the ends of strokes. */
 static uint8_t sheet[STATION_LONGEST_SHEET + 1], second[STATION_LONGEST_SHEET + 1];
 static size_t sheet_length, second_length;
 static uint64_t legs[512];
@@ -21,13 +22,15 @@ static struct station_lists lists = {0, legs, 0, waypoints, 0, slopes, 0};
 static uint8_t page[STATION_LONGEST_SHEET];
 static int64_t list[STATION_LONGEST_LIST];
 static uint64_t tick, words[3], fleet[2 * STATION_MOST_SEATS];
-static int64_t place[3];
+static int64_t place[3], tolerance;
+static uint64_t ends[STATION_MOST_STROKE_ENDS];
+static size_t ends_length;
 
 static const char *const names[CALLS] = {"read", "lay_out", "place_at_tick", "place_of_runner", "runner_at_tick",
-                                         "step", "back",    "write",         "join",            "round"};
+                                         "step", "back",    "write",         "join",            "round",          "strokes"};
 static uint64_t deepest[CALLS];
 
-/* The ten calls, or functions of the same types that do nothing. */
+/* The eleven calls, or functions of the same types that do nothing. */
 struct calls {
     uint64_t (*read)(const uint8_t *, size_t, uint64_t *, size_t);
     uint64_t (*lay_out)(const uint8_t *, size_t, int64_t *, size_t);
@@ -41,10 +44,12 @@ struct calls {
     uint64_t (*join)(const uint8_t *, size_t, const uint8_t *, size_t, uint8_t *, size_t, uint64_t *, size_t);
     uint64_t (*round)(const uint8_t *, size_t, const int64_t *, size_t, uint64_t *, size_t, uint64_t, int64_t *, size_t, uint64_t *,
                       size_t);
+    uint64_t (*strokes)(const uint8_t *, size_t, const int64_t *, size_t, int64_t, uint64_t *, size_t, uint64_t *, size_t);
 };
 
 static const struct calls library = {station_read, station_lay_out, station_place_at_tick, station_place_of_runner, station_runner_at_tick,
-                                     station_step, station_back,    station_write,         station_join,            station_round};
+                                     station_step, station_back,    station_write,         station_join,            station_round,
+                                     station_strokes};
 
 static uint64_t no_read(const uint8_t *s, size_t n, uint64_t *out, size_t m)
 {
@@ -88,8 +93,15 @@ static uint64_t no_round(const uint8_t *s, size_t n, const int64_t *l, size_t k,
     return (void)s, (void)n, (void)l, (void)k, (void)f, (void)g, (void)t, (void)p, (void)m, (void)out, (void)o, 0;
 }
 
+static uint64_t no_strokes(const uint8_t *s, size_t n, const int64_t *l, size_t k, int64_t t, uint64_t *e, size_t g, uint64_t *out,
+                           size_t m)
+{
+    return (void)s, (void)n, (void)l, (void)k, (void)t, (void)e, (void)g, (void)out, (void)m, 0;
+}
+
 static const struct calls nothing = {no_read, no_lay_out, no_place_at_tick, no_place_of_runner, no_runner_at_tick,
-                                     no_read, no_read,    no_write,         no_join,            no_round};
+                                     no_read, no_read,    no_write,         no_join,            no_round,
+                                     no_strokes};
 
 /* Which call is made, and its answer; volatile, so that the compiler keeps one call site for both sets. */
 static const struct calls *volatile chosen;
@@ -129,9 +141,12 @@ static void make_call(void)
     case JOIN:
         answer = c->join(sheet, sheet_length, second, second_length, page, sizeof page, words, 1);
         break;
-    default:
+    case ROUND:
         answer = c->round(sheet, sheet_length, list, STATION_LONGEST_LIST, fleet, 2 * STATION_MOST_SEATS, STATION_MOST_SEATS - 1, place, 3,
                           words, 1);
+        break;
+    default:
+        answer = c->strokes(sheet, sheet_length, list, STATION_LONGEST_LIST, tolerance, ends, ends_length, words, 1);
     }
 }
 
@@ -177,7 +192,23 @@ static void measure_call(int i, uint64_t at, uint64_t leg, uint64_t offset, uint
     }
 }
 
-/* All calls but the joining, which have one answer on the sheet and lists that are in place; of a fleet the last seat is served. */
+/* Strokes of the sheet in place at a tolerance: with room for the most ends, for just as many as there are, and for one less, which is
+ * refused. */
+static void measure_strokes(int64_t millimetres, uint64_t wanted)
+{
+    tolerance = millimetres;
+    ends_length = STATION_MOST_STROKE_ENDS;
+    measure_call(STROKES, 0, 0, 0, wanted);
+    if (wanted != STATION_DONE)
+        return;
+    ends_length = (size_t)words[0];
+    measure_call(STROKES, 0, 0, 0, STATION_DONE);
+    ends_length--;
+    measure_call(STROKES, 0, 0, 0, STATION_INK);
+}
+
+/* All calls but the joining and the strokes, which have one answer on the sheet and lists that are in place; of a fleet the last seat is
+ * served. */
 static void measure(uint64_t at, uint64_t leg, uint64_t offset, uint64_t wanted)
 {
     for (int i = 0; i < JOIN; i++)
@@ -246,6 +277,10 @@ int main(void)
         make_sheet();
         for (uint64_t at = 0; at <= ticks; at += ticks / 4)
             measure(at, 0, 1, STATION_DONE);
+        /* at 0 mm each leg of 256 ticks is cut as often as it can be; at 1000 mm many stretches are kept */
+        measure_strokes(0, STATION_DONE);
+        measure_strokes(1000, STATION_DONE);
+        measure_strokes(1001, STATION_GRAIN);
         make_lists(kind, 3);
         make_sheet();
         measure(1, 0, 1, STATION_DONE);
@@ -256,6 +291,7 @@ int main(void)
         legs[0] = 0;
         make_sheet();
         measure(1, 0, 1, STATION_LEG);
+        measure_strokes(0, STATION_LEG);
     }
     measure_join(257, STATION_FREE, 256, STATION_DONE);
     measure_join(3, STATION_FREE, 2, STATION_DONE);

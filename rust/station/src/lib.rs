@@ -3,8 +3,8 @@
 //!
 //! A *sheet* is a course as bytes. [`read`] tells what it holds, [`lay_out`] makes the bend numbers that the places need, and then
 //! [`place_at_tick`] tells where the course is at each tick. A [`Runner`] does the same for a drone that moves on, or back, tick by tick, a
-//! [`Fleet`] for several of them in turn. [`write()`] makes a sheet from lists of numbers, [`join`] one of two. Ten ticks are a second, and
-//! lengths are whole millimetres.
+//! [`Fleet`] for several of them in turn. [`strokes`] cuts the course into straight lines to be drawn. [`write()`] makes a sheet from lists
+//! of numbers, [`join`] one of two. Ten ticks are a second, and lengths are whole millimetres.
 //!
 //! Every function takes any bytes, lists and numbers (D1). What does not fit is answered with a [`Refusal`], and then nothing that was
 //! lent has changed (A9); a fleet whose seat is refused passes its turn on (Q3).
@@ -26,7 +26,7 @@
 //!
 //! `build.rs` links `libstation.a` from the folder that the variable `STATION_LIBRARY_DIR` names, or from `target/staticlib` of the
 //! repository that this crate is part of, where `tools/archive` makes it. The archive is for x86-64. Without the default feature `link`
-//! nothing is linked: the program then brings the ten functions of [`raw`] itself.
+//! nothing is linked: the program then brings the eleven functions of [`raw`] itself.
 
 #![no_std]
 #![deny(missing_docs)]
@@ -36,9 +36,11 @@ mod fleet;
 #[allow(unsafe_code)]
 pub mod raw;
 mod refusal;
+mod strokes;
 
 pub use fleet::{Fleet, MOST_SEATS};
 pub use refusal::Refusal;
+pub use strokes::{MOST_STROKE_ENDS, MOST_TOLERANCE, strokes};
 
 /// How long an accepted sheet can be, in bytes (S9): the size of an array into which every sheet can be written.
 pub const LONGEST_SHEET: usize = 7198;
@@ -82,6 +84,11 @@ impl Course {
     /// How many bend numbers its list has: three for each waypoint.
     pub const fn list_length(&self) -> usize {
         3 * self.waypoints
+    }
+
+    /// How many ends its strokes have at most: one for each tick from 0 to P (H5).
+    pub const fn most_stroke_ends(&self) -> usize {
+        self.ticks as usize + 1
     }
 }
 

@@ -1,4 +1,4 @@
-//! The C boundary (`include/station.h`): the ten functions as the archive has them, and the same over slices, for the rest of the crate.
+//! The C boundary (`include/station.h`): the eleven functions as the archive has them, and the same over slices, for the rest of the crate.
 //! All `unsafe` code of the crate is here.
 
 use crate::Runner;
@@ -76,6 +76,18 @@ unsafe extern "C" {
         next: *mut u64,
         next_length: usize,
     ) -> u64;
+    /// The ticks at which strokes begin and end into `ends`, how many into `out`.
+    pub fn station_strokes(
+        sheet: *const u8,
+        sheet_length: usize,
+        list: *const i64,
+        list_length: usize,
+        tolerance: i64,
+        ends: *mut u64,
+        ends_length: usize,
+        out: *mut u64,
+        out_length: usize,
+    ) -> u64;
 }
 
 // What the library asks of its caller, slices and their borrows give: a pointer that is not null (that of an empty slice dangles, which is
@@ -148,4 +160,11 @@ pub(crate) fn round(sheet: &[u8], list: &[i64], fleet: &mut [Runner], turn: u64,
     let (seats, numbers) = (fleet.as_mut_ptr().cast(), 2 * fleet.len());
     // SAFETY: pointers and lengths of five borrowed slices, `fleet`, `place` and `next` borrowed mutably.
     unsafe { station_round(s, n, l, m, seats, numbers, turn, place.as_mut_ptr(), place.len(), next.as_mut_ptr(), next.len()) }
+}
+
+#[inline]
+pub(crate) fn strokes(sheet: &[u8], list: &[i64], tolerance: i64, ends: &mut [u64], out: &mut [u64; 1]) -> u64 {
+    let (s, n, l, m) = (sheet.as_ptr(), sheet.len(), list.as_ptr(), list.len());
+    // SAFETY: pointers and lengths of four borrowed slices, `ends` and `out` borrowed mutably.
+    unsafe { station_strokes(s, n, l, m, tolerance, ends.as_mut_ptr(), ends.len(), out.as_mut_ptr(), out.len()) }
 }

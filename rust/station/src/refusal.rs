@@ -2,8 +2,8 @@
 
 use core::fmt;
 
-/// Why a call was refused. Of the refusals that a call looks for, the one with the least number is answered (A1); joining and the round
-/// have orders of their own (A13, A14).
+/// Why a call was refused. Of the refusals that a call looks for, the one with the least number is answered (A1); joining, the round and
+/// strokes have orders of their own (A13 to A15).
 ///
 /// ```
 /// use station::Refusal;
@@ -56,6 +56,10 @@ pub enum Refusal {
     Seats,
     /// N20: the turn is not below the number of seats.
     Turn,
+    /// N21: a tolerance below 0 or over 1,000 mm.
+    Grain,
+    /// N22: the list for the ends of strokes is shorter than the answer.
+    Ink,
     /// A number that this crate does not know, from a library newer than it. The library of this version has no such answer.
     Unknown(u64),
 }
@@ -94,6 +98,8 @@ impl Refusal {
             18 => Refusal::Crowded,
             19 => Refusal::Seats,
             20 => Refusal::Turn,
+            21 => Refusal::Grain,
+            22 => Refusal::Ink,
             _ => Refusal::Unknown(number),
         })
     }
@@ -131,6 +137,8 @@ impl Refusal {
             Refusal::Crowded => (18, "crowded"),
             Refusal::Seats => (19, "seats"),
             Refusal::Turn => (20, "turn"),
+            Refusal::Grain => (21, "grain"),
+            Refusal::Ink => (22, "ink"),
             Refusal::Unknown(number) => (number, "unknown"),
         }
     }

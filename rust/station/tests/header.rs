@@ -1,6 +1,6 @@
 //! The crate says what include/station.h says: version, sizes, the kinds of ends, each refusal's number and word.
 
-use station::{EndKind, LONGEST_LIST, LONGEST_SHEET, MOST_SEATS, Refusal};
+use station::{EndKind, LONGEST_LIST, LONGEST_SHEET, MOST_SEATS, MOST_STROKE_ENDS, MOST_TOLERANCE, Refusal};
 
 const HEADER: &str = include_str!("../../../include/station.h");
 
@@ -25,6 +25,8 @@ fn sizes() {
     assert_eq!(value("STATION_LONGEST_SHEET"), LONGEST_SHEET.to_string());
     assert_eq!(value("STATION_LONGEST_LIST"), LONGEST_LIST.to_string());
     assert_eq!(value("STATION_MOST_SEATS"), MOST_SEATS.to_string());
+    assert_eq!(value("STATION_MOST_STROKE_ENDS"), MOST_STROKE_ENDS.to_string());
+    assert_eq!(value("STATION_MOST_TOLERANCE"), MOST_TOLERANCE.to_string());
 }
 
 #[test]
