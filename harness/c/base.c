@@ -1,6 +1,7 @@
 /* The calls in plain C, as one writes them from docs/REQUIREMENTS.md: the baseline of the benchmark (gcc -O2) and the stand-in for the
  * library (then compiled a second time with the names station_*), on which the mutants are tried. Numbers are read from the sheet's
- * bytes where they are needed and written as single bytes; laying out ends early after a pass that changed nothing. */
+ * bytes where they are needed and written as single bytes; laying out ends early after a pass that changed nothing; strokes are counted,
+ * then drawn. */
 #ifndef NAME
 #define NAME(call) base_##call
 #endif
@@ -167,17 +168,10 @@ static uint64_t find_tick(const struct course *c, uint64_t tick, uint64_t *leg, 
     return STATION_DONE;
 }
 
-static uint64_t place(const struct course *c, const int64_t *list, uint64_t leg, uint64_t offset, int64_t *out, size_t out_length)
+/* P1: the place at a leg and an offset that fit, north, east and up. */
+static void put_place(const struct course *c, const int64_t *list, uint64_t leg, uint64_t offset, int64_t *out)
 {
-    const int64_t limit = (int64_t)1 << 37;
     uint64_t end = leg + 1 == c->n ? 0 : leg + 1;
-    for (uint64_t axis = 0; axis < 3; axis++) {
-        int64_t z = list[axis * c->n + leg], y = list[axis * c->n + end];
-        if (z < -limit || z > limit || y < -limit || y > limit)
-            return STATION_BEND;
-    }
-    if (out_length < 3)
-        return ROOM;
     int64_t h = leg_at(c, leg), u = offset;
     for (uint64_t axis = 0; axis < 3; axis++) {
         int64_t v = value_at(c, leg, axis), w = value_at(c, end, axis);
@@ -185,6 +179,26 @@ static uint64_t place(const struct course *c, const int64_t *list, uint64_t leg,
         int64_t numerator = 65536 * (u * w + (h - u) * v) - u * (h - u) * ((2 * h - u) * z + (h + u) * y);
         out[axis] = rounded(numerator, 65536 * h);
     }
+}
+
+/* Test 12 of one number. */
+static int is_bad_bend(int64_t z)
+{
+    const int64_t limit = (int64_t)1 << 37;
+    return z < -limit || z > limit;
+}
+
+static uint64_t place(const struct course *c, const int64_t *list, uint64_t leg, uint64_t offset, int64_t *out, size_t out_length)
+{
+    uint64_t end = leg + 1 == c->n ? 0 : leg + 1;
+    for (uint64_t axis = 0; axis < 3; axis++) {
+        int64_t z = list[axis * c->n + leg], y = list[axis * c->n + end];
+        if (is_bad_bend(z) || is_bad_bend(y))
+            return STATION_BEND;
+    }
+    if (out_length < 3)
+        return ROOM;
+    put_place(c, list, leg, offset, out);
     return STATION_DONE;
 }
 
@@ -232,4 +246,77 @@ static uint8_t *put_numbers(uint8_t *p, const int64_t *numbers, size_t count)
         *p++ = (uint8_t)number;
     }
     return p;
+}
+
+static int some_bend_bad(const int64_t *list, size_t count)
+{
+    for (size_t i = 0; i < count; i++)
+        if (is_bad_bend(list[i]))
+            return 1;
+    return 0;
+}
+
+/* The strokes of a course while they are found: the places of the leg by offset, and the ends so far. Without a list they are counted. */
+struct drawing {
+    int64_t places[257][3], tolerance;
+    uint64_t *ends, count;
+};
+
+/* H2: whether m ticks from an offset on are within the tolerance of a stroke. Its two ends are on it. */
+static int is_kept(const struct drawing *d, int64_t offset, int64_t m)
+{
+    const int64_t *first = d->places[offset], *last = d->places[offset + m];
+    for (int64_t u = 1; u < m; u++)
+        for (int axis = 0; axis < 3; axis++) {
+            int64_t off = m * (d->places[offset + u][axis] - first[axis]) - u * (last[axis] - first[axis]);
+            if (off < -d->tolerance * m || off > d->tolerance * m)
+                return 0;
+        }
+    return 1;
+}
+
+static void put_end(struct drawing *d, uint64_t tick)
+{
+    if (d->ends)
+        d->ends[d->count] = tick;
+    d->count++;
+}
+
+/* H3: the ends behind an offset, of m ticks on the leg that starts at a tick. */
+static void cut(struct drawing *d, uint64_t start, int64_t offset, int64_t m)
+{
+    if (is_kept(d, offset, m)) {
+        put_end(d, start + offset + m);
+        return;
+    }
+    cut(d, start, offset, m / 2);
+    cut(d, start, offset + m / 2, m - m / 2);
+}
+
+/* All legs in turn; how many ends there are. */
+static uint64_t draw_legs(const struct course *c, const int64_t *list, int64_t tolerance, uint64_t *ends)
+{
+    struct drawing d;
+    uint64_t start = 0;
+    d.tolerance = tolerance;
+    d.ends = ends;
+    d.count = 0;
+    put_end(&d, 0);
+    for (uint64_t leg = 0; leg < c->leg_count; leg++) {
+        int64_t h = leg_at(c, leg);
+        for (int64_t u = 0; u <= h; u++)
+            put_place(c, list, leg, u, d.places[u]);
+        cut(&d, start, 0, h);
+        start += h;
+    }
+    return d.count;
+}
+
+static uint64_t draw(const struct course *c, const int64_t *list, int64_t tolerance, uint64_t *ends, size_t ends_length, uint64_t *count)
+{
+    *count = draw_legs(c, list, tolerance, 0);
+    if (ends_length < *count)
+        return STATION_INK;
+    draw_legs(c, list, tolerance, ends);
+    return STATION_DONE;
 }

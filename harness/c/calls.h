@@ -1,6 +1,6 @@
-/* The ten calls of include/station.h over ten parts, which base.c and careful.c write each in its own way. The file that includes this
- * one says by NAME what its calls are called; by KEPT it may say what it keeps of a course beside its fields. ROOM and NO_RUNNER are the
- * answers where a lent slice is too short, from src/room.rs; nothing is written into it then. */
+/* The eleven calls of include/station.h over twelve parts, which base.c and careful.c write each in its own way. The file that includes
+ * this one says by NAME what its calls are called; by KEPT it may say what it keeps of a course beside its fields. ROOM and NO_RUNNER are
+ * the answers where a lent slice is too short, from src/room.rs; nothing is written into it then. */
 #include "station.h"
 
 #include <string.h>
@@ -35,6 +35,10 @@ static int some_slope_bad(const int64_t *slopes, size_t count);
 static uint8_t *put_legs(uint8_t *p, const uint64_t *legs, size_t count);
 /* Four bytes for each number (S7, S8); then where they end. */
 static uint8_t *put_numbers(uint8_t *p, const int64_t *numbers, size_t count);
+/* Test 12 over a whole list of bend numbers. */
+static int some_bend_bad(const int64_t *list, size_t count);
+/* Test 22, then the ends of all strokes (H4), and how many they are. */
+static uint64_t draw(const struct course *c, const int64_t *list, int64_t tolerance, uint64_t *ends, size_t ends_length, uint64_t *count);
 
 /* Test 11. */
 static int is_adrift(const struct course *c, uint64_t leg, uint64_t offset)
@@ -281,4 +285,27 @@ uint64_t NAME(round)(const uint8_t *sheet, size_t sheet_length, const int64_t *l
     seat[0] = runner[0];
     seat[1] = runner[1];
     return answer;
+}
+
+uint64_t NAME(strokes)(const uint8_t *sheet, size_t sheet_length, const int64_t *list, size_t list_length, int64_t tolerance,
+                       uint64_t *ends, size_t ends_length, uint64_t *out, size_t out_length)
+{
+    struct course c;
+    uint64_t count;
+    uint64_t answer = read_course(sheet, sheet_length, &c);
+    if (answer)
+        return answer;
+    if (list_length < 3 * c.n)
+        return STATION_SHELF;
+    if (tolerance < 0 || tolerance > STATION_MOST_TOLERANCE)
+        return STATION_GRAIN;
+    if (some_bend_bad(list, 3 * c.n))
+        return STATION_BEND;
+    answer = draw(&c, list, tolerance, ends, ends_length, &count);
+    if (answer)
+        return answer;
+    if (out_length < 1)
+        return ROOM;
+    out[0] = count;
+    return STATION_DONE;
 }

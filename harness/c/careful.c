@@ -2,8 +2,9 @@
  * bytes swapped, ranges asked by one unsigned comparison or by a few bits of many numbers and gathered without a branch, a row's factors
  * worked out once for the three axes, the number just set carried along as the next row's left neighbour, rounding without a branch. An
  * axis at a time, each row with its one division; laying out ends early after a pass that changed nothing. Reading adds legs by four in a
- * word and keeps their sum at every sixteenth leg, and a tick's leg is looked for among these sums and then from the last that fits (P7). No
- * vector types. Compiled with gcc -O3, twice: with HALF_FIRST it rounds in another way, and its calls have names of their own. */
+ * word and keeps their sum at every sixteenth leg, and a tick's leg is looked for among these sums and then from the last that fits (P7).
+ * Strokes are counted before they are drawn only where the list may be too short for them, and a stroke's rise is carried along from tick
+ * to tick. No vector types. Compiled with gcc -O3, twice: with HALF_FIRST it rounds in another way, and its calls have names of their own. */
 #ifdef HALF_FIRST
 #define NAME(call) half_first_##call
 #else
@@ -299,4 +300,92 @@ static uint8_t *put_numbers(uint8_t *restrict p, const int64_t *restrict numbers
         memcpy(p + 4 * i, &swapped, 4);
     }
     return p + 4 * count;
+}
+
+static int some_bend_bad(const int64_t *list, size_t count)
+{
+    uint64_t bad = 0;
+    for (size_t i = 0; i < count; i++)
+        bad |= signs(list[i], (uint64_t)1 << 37, (uint64_t)1 << 37);
+    return bad >> 63;
+}
+
+/* The strokes of a course while they are found: the leg's places by axis and offset, the tick at which it starts, and the ends so far.
+ * Without a list they are counted. */
+struct drawing {
+    int64_t places[3][257], tolerance;
+    uint64_t start, *ends, count;
+};
+
+/* Puts the places of a leg into the table: its numbers are read once. */
+static void put_leg(struct drawing *d, const struct course *c, const int64_t *list, uint64_t leg)
+{
+    uint64_t n = c->n, end = leg + 1 == n ? 0 : leg + 1;
+    int64_t h = leg_length(c, leg), divisor = 65536 * h;
+    for (uint64_t axis = 0; axis < 3; axis++) {
+        int64_t v = value_at(c, leg, axis), w = value_at(c, end, axis);
+        int64_t z = list[axis * n + leg], y = list[axis * n + end];
+        for (int64_t u = 0; u <= h; u++) {
+            int64_t rest = h - u;
+            d->places[axis][u] = rounded(65536 * (u * w + rest * v) - u * rest * ((h + rest) * z + (h + u) * y), divisor);
+        }
+    }
+}
+
+/* H2. The ends are on the stroke, so that only the ticks between them are looked at; one comparison without sign asks both limits. */
+static inline int is_kept(const struct drawing *d, int64_t offset, int64_t m)
+{
+    uint64_t limit = (uint64_t)(d->tolerance * m);
+    for (int axis = 0; axis < 3; axis++) {
+        const int64_t *places = d->places[axis] + offset;
+        int64_t first = places[0], rise = places[m] - first, line = rise;
+        for (int64_t u = 1; u < m; u++, line += rise)
+            if ((uint64_t)(m * (places[u] - first) - line) + limit > 2 * limit)
+                return 0;
+    }
+    return 1;
+}
+
+/* H3: the ends behind an offset, of m ticks. */
+static void cut(struct drawing *d, int64_t offset, int64_t m)
+{
+    if (is_kept(d, offset, m)) {
+        if (d->ends)
+            d->ends[d->count] = d->start + offset + m;
+        d->count++;
+        return;
+    }
+    int64_t half = m / 2;
+    cut(d, offset, half);
+    cut(d, offset + half, m - half);
+}
+
+/* All legs in turn; how many ends there are. */
+static uint64_t draw_legs(const struct course *c, const int64_t *list, int64_t tolerance, uint64_t *ends)
+{
+    struct drawing d;
+    d.tolerance = tolerance;
+    d.start = 0;
+    d.ends = ends;
+    d.count = 1;
+    if (ends)
+        ends[0] = 0;
+    for (uint64_t leg = 0; leg < c->leg_count; leg++) {
+        int64_t h = leg_length(c, leg);
+        put_leg(&d, c, list, leg);
+        cut(&d, 0, h);
+        d.start += h;
+    }
+    return d.count;
+}
+
+static uint64_t draw(const struct course *c, const int64_t *list, int64_t tolerance, uint64_t *ends, size_t ends_length, uint64_t *count)
+{
+    if (ends_length <= c->ticks) {
+        *count = draw_legs(c, list, tolerance, 0);
+        if (ends_length < *count)
+            return STATION_INK;
+    }
+    *count = draw_legs(c, list, tolerance, ends);
+    return STATION_DONE;
 }

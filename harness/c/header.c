@@ -12,8 +12,9 @@ struct entry {
 static const struct entry entries[] = {
     ENTRY(DONE), ENTRY(TORN), ENTRY(EDITION), ENTRY(ENDS), ENTRY(POINTS), ENTRY(SIZE), ENTRY(LEG),
     ENTRY(REACH), ENTRY(SLOPE), ENTRY(SHELF), ENTRY(PAST), ENTRY(ADRIFT), ENTRY(BEND), ENTRY(LANDED),
-    ENTRY(PAGE), ENTRY(START), ENTRY(SHUT), ENTRY(APART), ENTRY(CROWDED), ENTRY(SEATS), ENTRY(TURN), ENTRY(FREE), ENTRY(HELD),
-    ENTRY(CLOSED), ENTRY(LONGEST_SHEET), ENTRY(LONGEST_LIST), ENTRY(MOST_SEATS),
+    ENTRY(PAGE), ENTRY(START), ENTRY(SHUT), ENTRY(APART), ENTRY(CROWDED), ENTRY(SEATS), ENTRY(TURN), ENTRY(GRAIN), ENTRY(INK),
+    ENTRY(FREE), ENTRY(HELD), ENTRY(CLOSED), ENTRY(LONGEST_SHEET), ENTRY(LONGEST_LIST), ENTRY(MOST_SEATS), ENTRY(MOST_STROKE_ENDS),
+    ENTRY(MOST_TOLERANCE),
 };
 
 /* The i-th enumerator, or 0 past the last. */
@@ -28,8 +29,8 @@ const char *header_word(uint64_t number)
     return station_word(number);
 }
 
-/* The ten calls by the header's functions over structs, in the form of the calls themselves, so that evidence can compare them alike. The
- * structs hold before a call what out holds. Where out is too short for a struct, and for laying out, there is only the call itself. */
+/* The eleven calls by the header's functions over structs, in the form of the calls themselves, so that evidence can compare them alike.
+ * The structs hold before a call what out holds. Where out is too short for a struct, and for laying out, there is only the call itself. */
 
 uint64_t structs_read(const uint8_t *sheet, size_t n, uint64_t *out, size_t m)
 {
@@ -151,6 +152,17 @@ uint64_t structs_round(const uint8_t *sheet, size_t n, const int64_t *list, size
     put_place(&place, out);
     if (passes_on(answer) || at != turn)
         next[0] = at;
+    return answer;
+}
+
+uint64_t structs_strokes(const uint8_t *sheet, size_t n, const int64_t *list, size_t k, int64_t tolerance, uint64_t *ends, size_t e,
+                         uint64_t *out, size_t m)
+{
+    if (m < 1)
+        return station_strokes(sheet, n, list, k, tolerance, ends, e, out, m);
+    size_t count = out[0];
+    uint64_t answer = station_strokes_into(sheet, n, list, k, tolerance, ends, e, &count);
+    out[0] = count;
     return answer;
 }
 

@@ -9,7 +9,10 @@ type Write = unsafe extern "C" fn(u64, *const u64, usize, *const i64, usize, *co
 /// `station_round`: the sheet, the list, the fleet, the turn, the place, the next turn.
 type Round = unsafe extern "C" fn(*const u8, usize, *const i64, usize, *mut u64, usize, u64, *mut i64, usize, *mut u64, usize) -> u64;
 
-/// One implementation of the ten calls.
+/// `station_strokes`: the sheet, the list, the tolerance, the ends, the out.
+type Strokes = unsafe extern "C" fn(*const u8, usize, *const i64, usize, i64, *mut u64, usize, *mut u64, usize) -> u64;
+
+/// One implementation of the eleven calls.
 pub struct Calls {
     pub name: &'static str,
     pub read: unsafe extern "C" fn(*const u8, usize, *mut u64, usize) -> u64,
@@ -22,6 +25,7 @@ pub struct Calls {
     pub write: Write,
     pub join: unsafe extern "C" fn(*const u8, usize, *const u8, usize, *mut u8, usize, *mut u64, usize) -> u64,
     pub round: Round,
+    pub strokes: Strokes,
 }
 
 impl Calls {
@@ -48,6 +52,14 @@ impl Calls {
         // SAFETY: pointers and lengths of live slices; those that are written overlap no other.
         unsafe { (self.round)(sheet, n, list, k, fleet, f, turn, place, m, next, t) }
     }
+
+    /// The call `strokes` over slices.
+    pub fn strokes_slices(&self, sheet: &[u8], list: &[i64], tolerance: i64, ends: &mut [u64], out: &mut [u64]) -> u64 {
+        let ((sheet, n), (list, k)) = (parts(sheet), parts(list));
+        let ((ends, e), (out, m)) = ((ends.as_mut_ptr(), ends.len()), (out.as_mut_ptr(), out.len()));
+        // SAFETY: pointers and lengths of live slices; those that are written overlap no other.
+        unsafe { (self.strokes)(sheet, n, list, k, tolerance, ends, e, out, m) }
+    }
 }
 
 /// A slice as C takes it.
@@ -57,7 +69,7 @@ fn parts<T>(slice: &[T]) -> (*const T, usize) {
 
 macro_rules! c_calls {
     ($($read:ident $lay_out:ident $place_at_tick:ident $place_of_runner:ident
-       $runner_at_tick:ident $step:ident $back:ident $write:ident $join:ident $round:ident;)*) => {
+       $runner_at_tick:ident $step:ident $back:ident $write:ident $join:ident $round:ident $strokes:ident;)*) => {
         extern "C" { $(
             fn $read(sheet: *const u8, n: usize, out: *mut u64, m: usize) -> u64;
             fn $lay_out(sheet: *const u8, n: usize, list: *mut i64, m: usize) -> u64;
@@ -79,21 +91,24 @@ macro_rules! c_calls {
                 sheet: *const u8, n: usize, list: *const i64, k: usize, fleet: *mut u64, f: usize, turn: u64,
                 place: *mut i64, m: usize, next: *mut u64, t: usize,
             ) -> u64;
+            fn $strokes(
+                sheet: *const u8, n: usize, list: *const i64, k: usize, tolerance: i64, ends: *mut u64, e: usize, out: *mut u64, m: usize,
+            ) -> u64;
         )* }
     };
 }
 
 c_calls! {
     station_read station_lay_out station_place_at_tick station_place_of_runner
-        station_runner_at_tick station_step station_back station_write station_join station_round;
+        station_runner_at_tick station_step station_back station_write station_join station_round station_strokes;
     base_read base_lay_out base_place_at_tick base_place_of_runner
-        base_runner_at_tick base_step base_back base_write base_join base_round;
+        base_runner_at_tick base_step base_back base_write base_join base_round base_strokes;
     careful_read careful_lay_out careful_place_at_tick careful_place_of_runner
-        careful_runner_at_tick careful_step careful_back careful_write careful_join careful_round;
+        careful_runner_at_tick careful_step careful_back careful_write careful_join careful_round careful_strokes;
     half_first_read half_first_lay_out half_first_place_at_tick half_first_place_of_runner
-        half_first_runner_at_tick half_first_step half_first_back half_first_write half_first_join half_first_round;
+        half_first_runner_at_tick half_first_step half_first_back half_first_write half_first_join half_first_round half_first_strokes;
     structs_read structs_lay_out structs_place_at_tick structs_place_of_runner
-        structs_runner_at_tick structs_step structs_back structs_write structs_join structs_round;
+        structs_runner_at_tick structs_step structs_back structs_write structs_join structs_round structs_strokes;
 }
 
 /// The station's library.
@@ -109,6 +124,7 @@ pub const LIBRARY: Calls = Calls {
     write: station_write,
     join: station_join,
     round: station_round,
+    strokes: station_strokes,
 };
 
 /// c/base.c.
@@ -124,6 +140,7 @@ pub const BASE: Calls = Calls {
     write: base_write,
     join: base_join,
     round: base_round,
+    strokes: base_strokes,
 };
 
 /// c/careful.c.
@@ -139,6 +156,7 @@ pub const CAREFUL: Calls = Calls {
     write: careful_write,
     join: careful_join,
     round: careful_round,
+    strokes: careful_strokes,
 };
 
 /// c/careful.c with HALF_FIRST.
@@ -154,6 +172,7 @@ pub const HALF_FIRST: Calls = Calls {
     write: half_first_write,
     join: half_first_join,
     round: half_first_round,
+    strokes: half_first_strokes,
 };
 
 /// The library by the header's functions over structs (c/header.c).
@@ -169,9 +188,10 @@ pub const STRUCTS: Calls = Calls {
     write: structs_write,
     join: structs_join,
     round: structs_round,
+    strokes: structs_strokes,
 };
 
-/// Any of the ten calls with its numbers, a writing's lists, a joining's second sheet.
+/// Any of the eleven calls with its numbers, a writing's lists, a joining's second sheet.
 #[derive(Clone, Debug)]
 pub enum Call {
     Read,
@@ -184,6 +204,7 @@ pub enum Call {
     Write(Lists),
     Join(Vec<u8>),
     Round { turn: u64 },
+    Strokes { tolerance: i64 },
 }
 
 /// What else is lent to a call, as it was before it or as it is after it.
@@ -195,6 +216,8 @@ pub struct Lent {
     pub place: Vec<i64>,
     /// The out of a round's next turn.
     pub next: Vec<u64>,
+    /// The list for the ends of strokes.
+    pub ends: Vec<u64>,
     /// What a sheet is written into.
     pub page: Vec<u8>,
 }
@@ -211,15 +234,16 @@ pub struct Memory<'a> {
     pub words: &'a mut [u64],
     pub place: &'a mut [i64],
     pub next: &'a mut [u64],
+    pub ends: &'a mut [u64],
     pub page: &'a mut [u8],
 }
 
 /// The names of the calls, by [`Call::index`].
-pub const NAMES: [&str; 10] =
-    ["read", "lay_out", "place_at_tick", "place_of_runner", "runner_at_tick", "step", "back", "write", "join", "round"];
+pub const NAMES: [&str; 11] =
+    ["read", "lay_out", "place_at_tick", "place_of_runner", "runner_at_tick", "step", "back", "write", "join", "round", "strokes"];
 
-/// A2 to A7, A12, A11, A13, A14: the numbers that each call tests, by [`Call::index`]; and the answers where what is lent is too short.
-pub const TESTS: [&[u64]; 10] = [
+/// A2 to A7, A12, A11, A13 to A15: the numbers that each call tests, by [`Call::index`]; and the answers where what is lent is too short.
+pub const TESTS: [&[u64]; 11] = [
     &[1, 2, 3, 4, 5, 6, 7, 8, ROOM],
     &[1, 2, 3, 4, 5, 6, 7, 8, 9],
     &[1, 2, 3, 4, 5, 6, 7, 8, 9, 10, 12, ROOM],
@@ -230,6 +254,7 @@ pub const TESTS: [&[u64]; 10] = [
     &[3, 4, 5, 6, 7, 8, 14, ROOM],
     &[1, 2, 3, 4, 5, 6, 7, 8, 14, 16, 17, 18, ROOM],
     &[1, 2, 3, 4, 5, 6, 7, 8, 9, 11, 12, 13, 19, 20, ROOM],
+    &[1, 2, 3, 4, 5, 6, 7, 8, 9, 12, 21, 22, ROOM],
 ];
 
 impl Call {
@@ -245,6 +270,7 @@ impl Call {
             Call::Write(_) => 7,
             Call::Join(_) => 8,
             Call::Round { .. } => 9,
+            Call::Strokes { .. } => 10,
         }
     }
 
@@ -255,14 +281,14 @@ impl Call {
             Call::LayOut => false,
             Call::PlaceAtTick { .. } | Call::PlaceOfRunner { .. } => lent.place.len() < 3,
             Call::RunnerAtTick { .. } | Call::Step | Call::Back => lent.words.len() < 2,
-            Call::Write(_) | Call::Join(_) => lent.words.is_empty(),
+            Call::Write(_) | Call::Join(_) | Call::Strokes { .. } => lent.words.is_empty(),
             Call::Round { .. } => lent.place.len() < 3 || lent.next.is_empty(),
         }
     }
 
     /// What the model says: the answer, and in `lent` what it leaves there. Refused calls change nothing but a round's next turn (Q3).
     pub fn by_model(&self, sheet: &[u8], lent: &mut Lent) -> u64 {
-        let Lent { list, words, place, next, page } = lent;
+        let Lent { list, words, place, next, ends, page } = lent;
         let answer = match *self {
             Call::Read => model::read(sheet).and_then(|course| put(words, &[course.kind as u64, course.n as u64, course.ticks() as u64])),
             Call::LayOut => model::lay_out(sheet, list),
@@ -277,13 +303,14 @@ impl Call {
                 let passed_on = put(next, &[served.next]);
                 served.place.and_then(|found| put(place, &found)).and(passed_on)
             }),
+            Call::Strokes { tolerance } => model::strokes(sheet, list, tolerance, ends).and_then(|count| put(words, &[count as u64])),
         };
         answer.err().unwrap_or(0)
     }
 
     /// The same by one of the implementations.
     pub fn by(&self, calls: &Calls, memory: Memory) -> u64 {
-        let Memory { sheet, second, legs, waypoints, slopes, list, words, place, next, page } = memory;
+        let Memory { sheet, second, legs, waypoints, slopes, list, words, place, next, ends, page } = memory;
         let ((s, n), (out, m)) = (parts(sheet), (words.as_mut_ptr(), words.len()));
         // SAFETY: pointers and lengths of live slices; those that are written overlap no other.
         unsafe {
@@ -300,6 +327,7 @@ impl Call {
                 Call::Write(Lists { kind, .. }) => calls.write_slices(kind, legs, waypoints, slopes, page, words),
                 Call::Join(_) => calls.join_slices(sheet, second, page, words),
                 Call::Round { turn } => calls.round_slices(sheet, list, words, turn, place, next),
+                Call::Strokes { tolerance } => calls.strokes_slices(sheet, list, tolerance, ends, words),
             }
         }
     }

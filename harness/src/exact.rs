@@ -220,8 +220,14 @@ impl Spline {
 
     /// How far a place is off, and whether it is near (C3).
     pub fn distance(&self, leg: usize, u: i128, place: i64) -> (f64, bool) {
-        let off = &self.denominator.times(place.into()) - &self.value(leg, u);
-        (off.over(&self.denominator), off.within(2, 3, &self.denominator))
+        self.distance_of(leg, u, [place.into(), 1], 3)
+    }
+
+    /// How far a fraction, numerator and denominator, is off, and whether that is within so many halves.
+    pub fn distance_of(&self, leg: usize, u: i128, [numerator, over]: [i128; 2], halves: i128) -> (f64, bool) {
+        let denominator = self.denominator.times(over);
+        let off = &self.denominator.times(numerator) - &self.value(leg, u).times(over);
+        (off.over(&denominator), off.within(2, halves, &denominator))
     }
 
     /// How far a bend number is off, and whether that is within L6.

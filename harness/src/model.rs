@@ -7,12 +7,14 @@ mod joining;
 mod refusals;
 mod rounds;
 mod runners;
+mod strokes;
 mod writing;
 
 pub use joining::join;
 pub use refusals::*;
 pub use rounds::{round, Served, MOST_SEATS};
 pub use runners::{backed, runner_at_tick, stepped};
+pub use strokes::{strokes, MOST_STROKE_ENDS, MOST_TOLERANCE};
 pub use writing::{write, Lists};
 
 /// S4.

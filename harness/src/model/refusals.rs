@@ -20,9 +20,11 @@ pub const APART: u64 = 17;
 pub const CROWDED: u64 = 18;
 pub const SEATS: u64 = 19;
 pub const TURN: u64 = 20;
+pub const GRAIN: u64 = 21;
+pub const INK: u64 = 22;
 
-/// The words of N1 to N20, by number; 0 has none.
-pub const WORDS: [&str; 21] = [
+/// The words of N1 to N22, by number; 0 has none.
+pub const WORDS: [&str; 23] = [
     "", "torn", "edition", "ends", "points", "size", "leg", "reach", "slope", "shelf", "past", "adrift", "bend", "landed", "page", "start",
-    "shut", "apart", "crowded", "seats", "turn",
+    "shut", "apart", "crowded", "seats", "turn", "grain", "ink",
 ];

@@ -51,6 +51,11 @@ pub enum Call {
     Join,
     /// Of so many seats.
     Round(usize),
+    /// At so many millimetres; into a list with P + 1 places, or with just as many as there are ends, which have to be counted first.
+    Strokes {
+        tolerance: i64,
+        counted: bool,
+    },
 }
 
 impl Call {
@@ -85,6 +90,7 @@ impl Call {
             Call::PlaceAt(_) | Call::PlaceOfRunner => self.placing(calls, form),
             Call::Write | Call::Join => self.making(calls, form),
             Call::Round(seats) => rounds(calls, form, seats),
+            Call::Strokes { tolerance, counted } => strokes(calls, form, tolerance, counted),
         }
     }
 
@@ -137,6 +143,22 @@ fn rounds<'a>(calls: &'a Calls, form: &'a Form, seats: usize) -> Work<'a> {
         let turn = next[0];
         fleet[2 * turn as usize..][..2].copy_from_slice(&form.runners[k]);
         black_box(calls.round_slices(&form.sheets[k], &form.lists[k], &mut fleet, turn, &mut place, &mut next));
+    })
+}
+
+/// Strokes, none of which are refused; where they are to be counted first, P + 1 places would be too many.
+fn strokes<'a>(calls: &'a Calls, form: &'a Form, tolerance: i64, counted: bool) -> Work<'a> {
+    let mut lists: Vec<Vec<u64>> = form.ticks.iter().map(|ticks| vec![0; *ticks as usize + 1]).collect();
+    for (k, ends) in lists.iter_mut().enumerate() {
+        let count = model::strokes(&form.sheets[k], &form.lists[k], tolerance, ends).expect("strokes that are not refused");
+        if counted {
+            assert!(count < ends.len(), "strokes that need not be counted");
+            ends.truncate(count);
+        }
+    }
+    let mut count = [0];
+    Box::new(move |k| {
+        black_box(calls.strokes_slices(&form.sheets[k], &form.lists[k], tolerance, &mut lists[k], &mut count));
     })
 }
 

@@ -1,4 +1,4 @@
-//! The sheets that the benchmark's calls are timed on, eight of each form, with all that the calls take besides.
+//! The sheets that the benchmark's calls are timed on, eight of each form but the longest, with all that the calls take besides.
 
 use harness::model::{self, Kind, Lists};
 use harness::pairs;
@@ -26,8 +26,8 @@ pub struct Form {
 }
 
 impl Form {
-    fn new(name: &str, n: usize, make: impl FnMut() -> Draft) -> Form {
-        let drafts: Vec<Draft> = std::iter::repeat_with(make).take(8).collect();
+    fn new(name: &str, n: usize, count: usize, make: impl FnMut() -> Draft) -> Form {
+        let drafts: Vec<Draft> = std::iter::repeat_with(make).take(count).collect();
         let mut form = Form {
             name: format!("N = {n}, {name}"),
             n,
@@ -66,7 +66,7 @@ impl Form {
             let rows = course.rows(axis);
             let mut z = vec![0; n];
             let unchanged = (1..=40).find(|_| !course.pass(&rows, &mut z));
-            self.passes += f64::from(unchanged.unwrap_or(40)) / 8.0;
+            self.passes += f64::from(unchanged.unwrap_or(40)) / self.sheets.len() as f64;
         }
     }
 }
@@ -83,12 +83,12 @@ fn spread(random: &mut Random, kind: u8, n: usize, leg: impl Fn(&mut Random) -> 
 }
 
 /// The sheets: open ones of N = 64 and 512 with legs alike; closed ones of N = 3; for laying out pairs of N = 64 and 512 with legs alike,
-/// with mixed ones, and the slowest.
-pub fn forms(seed: u64) -> ([Form; 2], Form, Vec<[Form; 2]>) {
+/// with mixed ones, and the slowest; for strokes those of `longest`.
+pub fn forms(seed: u64) -> ([Form; 2], Form, Vec<[Form; 2]>, [Form; 2]) {
     let mut random = Random::new(seed);
 
     let mut form = |name: &str, n: usize| {
-        Form::new(name, n, || match name {
+        Form::new(name, n, 8, || match name {
             "alike" => spread(&mut random, CLOSED, n, |_| 10),
             "mixed" => spread(&mut random, CLOSED, n, |random| random.between(1, 256) as u16),
             "open" => spread(&mut random, FREE, n, |_| 10),
@@ -98,5 +98,20 @@ pub fn forms(seed: u64) -> ([Form; 2], Form, Vec<[Form; 2]>) {
     let open = [form("open", 64), form("open", 512)];
     let three = form("mixed", 3);
     let laid = ["alike", "mixed", "worst"].map(|name| [form(name, 64), form(name, 512)]).into();
-    (open, three, laid)
+    let longest = longest(&mut random);
+    (open, three, laid, longest)
+}
+
+/// Closed courses with legs of 256 ticks: two of N = 512, and sixteen of N = 64 through the same waypoints, since what a leg takes depends
+/// on how it bends.
+fn longest(random: &mut Random) -> [Form; 2] {
+    let large = [(); 2].map(|()| spread(random, CLOSED, 512, |_| 256));
+    let mut part = large.iter().flat_map(|draft| draft.points.chunks(64)).map(|points| {
+        let mut draft = Draft::of(CLOSED, &[256; 64], &[0; 64], None);
+        draft.points = points.to_vec();
+        draft
+    });
+    let small = Form::new("longest", 64, 16, || part.next().expect("sixteen parts"));
+    let mut large = large.iter().cloned();
+    [small, Form::new("longest", 512, 2, || large.next().expect("two courses"))]
 }

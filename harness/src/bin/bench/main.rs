@@ -3,7 +3,7 @@
 //! remainder (F5), and in a second form by half the divisor, added first; calls that do not round are the same code in both.
 //!
 //! Ratios are within one run: each comparison runs its candidates in turn, a short block of calls each, for many rounds, and takes each
-//! candidate's quickest blocks. There are eight different sheets of each form, so that no candidate learns one by heart.
+//! candidate's quickest blocks. There are eight different sheets of each form (of the longest, 1,024 legs), so that no candidate learns one by heart.
 //! harness/usage/bench lists the options. A busy machine blurs the ratios: it prints its load. One target is the request's: how the place at
 //! the last tick grows with N (P7). All others are our own, and nobody asked for them. No test rests on any.
 
@@ -13,7 +13,7 @@ mod forms;
 use calls::{At, Call, Work};
 use forms::{forms, Form};
 use harness::boundary::{BASE, CAREFUL, HALF_FIRST, LIBRARY};
-use harness::model::MOST_SEATS;
+use harness::model::{MOST_SEATS, MOST_TOLERANCE};
 use harness::options::Given;
 use harness::pcuspl::Pcuspl;
 use std::hint::black_box;
@@ -156,8 +156,8 @@ fn main() {
         "{:<46} {:>12}   {:<25} {:<25} .. half first   (in brackets: our own targets, but for the one that is asked)",
         "call", "library", "over plain C", "over careful C"
     );
-    let (open, three, laid) = forms(seed);
-    time_calls(&mut bench, &open, &three, &laid);
+    let (open, three, laid, longest) = forms(seed);
+    time_calls(&mut bench, &open, &three, &laid, &longest);
     println!("against 004's PCUSPL and SEVAL in C (floats, nothing tested; no target): library over 004");
     for form in laid[..2].iter().flatten() {
         against_pcuspl(&bench, form);
@@ -169,8 +169,8 @@ fn main() {
     );
 }
 
-/// The ten calls on all forms, and how they grow.
-fn time_calls(bench: &mut Bench, open: &[Form; 2], three: &Form, laid: &[[Form; 2]]) {
+/// The eleven calls on all forms, and how they grow.
+fn time_calls(bench: &mut Bench, open: &[Form; 2], three: &Form, laid: &[[Form; 2]], longest: &[Form; 2]) {
     let ticks = [At::First, At::Middle, At::Last];
     let [small, large] = open;
     let [large, small] = [large, small].map(|form| time_form(bench, form, &ticks));
@@ -178,6 +178,7 @@ fn time_calls(bench: &mut Bench, open: &[Form; 2], three: &Form, laid: &[[Form; 
     let one_seat = bench.call("round, 1 seat", &open[1], Call::Round(1));
     bench.call(&format!("place at {}", At::LapsOn.name()), &laid[0][1], Call::PlaceAt(At::LapsOn));
     let per_pass = time_laying_out(bench, three, laid);
+    let strokes = time_strokes(bench, three, longest);
     for ((name, call, large), (_, _, small)) in large.into_iter().zip(small) {
         if let Call::PlaceAt(At::Last) = call {
             bench.growth(&name, ASKED_GROWTH, large, small);
@@ -191,6 +192,9 @@ fn time_calls(bench: &mut Bench, open: &[Form; 2], three: &Form, laid: &[[Form; 
     }
     for (name, [small, large]) in per_pass {
         bench.growth(&format!("lay out, a pass, {name}"), GROWTH, large, small);
+    }
+    for (name, [small, large]) in strokes {
+        bench.growth(&name, GROWTH, large, small);
     }
 }
 
@@ -234,6 +238,22 @@ fn time_laying_out(bench: &mut Bench, three: &Form, laid: &[[Form; 2]]) -> Vec<(
     timed(three);
     per_pass.truncate(2);
     per_pass
+}
+
+/// Strokes at three tolerances on the longest courses; the name and the library's nanoseconds, small and large. One of them also into a list
+/// in which they have to be counted, and on the smallest courses.
+fn time_strokes(bench: &mut Bench, three: &Form, [small, large]: &[Form; 2]) -> Vec<(String, [Option<f64>; 2])> {
+    let at = |tolerance| Call::Strokes { tolerance, counted: false };
+    let timed = |tolerance| {
+        let name = format!("strokes at {tolerance} mm");
+        let large = bench.call(&name, large, at(tolerance));
+        let small = bench.call(&name, small, at(tolerance));
+        (name, [small, large])
+    };
+    let times = [0, 20, MOST_TOLERANCE].map(timed).into();
+    bench.call("strokes at 20 mm, counted", large, Call::Strokes { tolerance: 20, counted: true });
+    bench.call("strokes at 20 mm", three, at(20));
+    times
 }
 
 /// The processor's name and the load, where Linux tells them.

@@ -5,7 +5,7 @@ use crate::parts::{Part, Tally};
 use crate::wrapper::{self, Refusal};
 use harness::boundary::{Call, Calls, Lent, Memory, BASE, CAREFUL, HALF_FIRST, LIBRARY, NAMES, STRUCTS};
 use harness::fence::{Fenced, Stand};
-use harness::model::{self, Course, Lists, WORDS};
+use harness::model::{self, Course, Lists, MOST_STROKE_ENDS, WORDS};
 use harness::room::ROOM;
 
 pub struct Comparison {
@@ -34,6 +34,7 @@ pub struct Comparison {
     words: Fenced<u64>,
     place: Fenced<i64>,
     next: Fenced<u64>,
+    ends: Fenced<u64>,
     page: Fenced<u8>,
 }
 
@@ -64,6 +65,7 @@ impl Comparison {
             words: Fenced::new(128),
             place: Fenced::new(64),
             next: Fenced::new(64),
+            ends: Fenced::new(MOST_STROKE_ENDS + 64),
             page: Fenced::new(1 << 14),
         }
     }
@@ -94,12 +96,13 @@ impl Comparison {
         let words = self.words.lend(&before.words, self.stand);
         let place = self.place.lend(&before.place, self.stand);
         let next = self.next.lend(&before.next, self.stand);
+        let ends = self.ends.lend(&before.ends, self.stand);
         let page = self.page.lend(&before.page, self.stand);
         let doing = Doing { part: self.part.name(), seed: self.seed, case: self.case, implementation: calls.name, call, sheet };
-        let memory = Memory { sheet: lent_sheet, second, legs, waypoints, slopes, list, words, place, next, page };
+        let memory = Memory { sheet: lent_sheet, second, legs, waypoints, slopes, list, words, place, next, ends, page };
         let answer = hit::watched(&doing, || call.by(calls, memory));
         let (list, words, place) = (list.to_vec(), words.to_vec(), place.to_vec());
-        let after = Lent { list, words, place, next: next.to_vec(), page: page.to_vec() };
+        let after = Lent { list, words, place, next: next.to_vec(), ends: ends.to_vec(), page: page.to_vec() };
         let kept = lent_sheet == sheet && legs == lists.legs && waypoints == lists.waypoints && slopes == lists.slopes && second == other;
         self.tally.check(Part::Memory, kept, || format!("{} {call:?} wrote its lists or a sheet, of {}", calls.name, hex(sheet)));
         (answer, after)
@@ -170,6 +173,9 @@ fn by_wrapper(call: &Call, sheet: &[u8], lent: &mut Lent) -> Result<(), Refusal>
         Call::Join(ref second) => wrapper::join(sheet, second, &mut lent.page).map(|length| lent.words[0] = length as u64),
         Call::Round { .. } => {
             wrapper::round(sheet, &lent.list, &mut lent.words, &mut lent.next[0]).map(|place| lent.place = place.to_vec())
+        }
+        Call::Strokes { tolerance } => {
+            wrapper::strokes(sheet, &lent.list, tolerance, &mut lent.ends).map(|count| lent.words[0] = count as u64)
         }
     }
 }

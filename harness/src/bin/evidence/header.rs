@@ -4,7 +4,7 @@
 use crate::compare::Comparison;
 use crate::parts::Part;
 use harness::header;
-use harness::model::{Kind, MOST_POINTS, MOST_SEATS, WORDS};
+use harness::model::{Kind, MOST_POINTS, MOST_SEATS, MOST_STROKE_ENDS, MOST_TOLERANCE, WORDS};
 
 /// What the header's enumerators have to be.
 fn wanted() -> Vec<(String, u64)> {
@@ -12,7 +12,13 @@ fn wanted() -> Vec<(String, u64)> {
     let numbers = (0..WORDS.len()).map(|i| (number(i), i as u64));
     let kinds = Kind::ALL.map(|kind| (format!("{kind:?}").to_uppercase(), kind as u64));
     let longest = Kind::ALL.map(|kind| kind.sheet_length(MOST_POINTS)).into_iter().max();
-    let sizes = [("LONGEST_SHEET", longest.unwrap_or(0)), ("LONGEST_LIST", 3 * MOST_POINTS), ("MOST_SEATS", MOST_SEATS)];
+    let sizes = [
+        ("LONGEST_SHEET", longest.unwrap_or(0)),
+        ("LONGEST_LIST", 3 * MOST_POINTS),
+        ("MOST_SEATS", MOST_SEATS),
+        ("MOST_STROKE_ENDS", MOST_STROKE_ENDS),
+        ("MOST_TOLERANCE", MOST_TOLERANCE as usize),
+    ];
     numbers.chain(kinds).chain(sizes.map(|(name, size)| (name.to_string(), size as u64))).collect()
 }
 

@@ -6,6 +6,7 @@
 
 mod compare;
 mod distance;
+mod drawings;
 mod fleets;
 mod header;
 mod hit;
@@ -14,6 +15,7 @@ mod mirrors;
 mod parts;
 mod rounds;
 mod sheets;
+mod strokes;
 mod ticks;
 mod walks;
 mod worked;
@@ -75,6 +77,7 @@ fn main() {
     ticks::run(&options, &mut comparison);
     walks::run(&options, &mut comparison);
     rounds::run(&options, &mut comparison);
+    strokes::run(&options, &mut comparison);
     years::run(&options, &mut comparison);
 
     let passed = comparison.tally.closed();

@@ -52,12 +52,14 @@ pub enum Part {
     Walks,
     /// Fleets of 1 to 33 seats flown round after round, each seat against a runner of its own (Q2 to Q6).
     Rounds,
+    /// Strokes of the library at every tick of their courses, and every cut (H4 to H7).
+    Strokes,
     /// One runner moved on for ten years, and back for one.
     OnFoot,
 }
 
 /// The parts' names, in the order above.
-pub const NAMES: [&str; 25] = [
+pub const NAMES: [&str; 26] = [
     "worked",
     "header",
     "calls",
@@ -82,6 +84,7 @@ pub const NAMES: [&str; 25] = [
     "open-ends",
     "walks",
     "rounds",
+    "strokes",
     "on-foot",
 ];
 

@@ -213,7 +213,7 @@ impl<'a> Flight<'a> {
     fn round(&mut self, comparison: &mut Comparison, made: &mut Made) {
         let (turn, seat, (place, next)) = (self.turn, self.turn as usize, UNTOUCHED);
         let (list, words) = (self.list.clone(), self.fleet.clone());
-        let mut model = Lent { list, words, place: place.to_vec(), next: next.to_vec(), page: vec![] };
+        let mut model = Lent { list, words, place: place.to_vec(), next: next.to_vec(), ..Lent::default() };
         let by_model = Call::Round { turn }.by_model(self.sheet, &mut model);
         let from = self.seats[seat].runner;
         let (answer, place, runner) = self.due(seat);

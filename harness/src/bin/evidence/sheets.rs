@@ -2,7 +2,7 @@
 
 use crate::compare::{Comparison, ALL};
 use crate::parts::Part;
-use crate::{fleets, joins, mirrors, writes, Options};
+use crate::{drawings, fleets, joins, mirrors, writes, Options};
 use harness::boundary::{Call, Lent, NAMES, TESTS};
 use harness::fence::Stand;
 use harness::lists;
@@ -92,11 +92,11 @@ pub fn try_call(random: &mut Random, comparison: &mut Comparison, call: Call, sh
     after
 }
 
-/// Each call that gets one sheet once, with anything lent.
+/// Each call that gets one sheet once, strokes now and then, with anything lent.
 fn on_refused(random: &mut Random, comparison: &mut Comparison, sheet: &[u8]) {
     let list = random.pick(&[0, 1, 6, 9, 40, 1536]);
     let (words, place, next) = (random.below(5), random.below(5), random.below(2));
-    let before = Lent { next: vec![random.word(); next], ..lent(random, list, words, place) };
+    let before = Lent { next: vec![random.word(); next], ends: vec![random.word(); 2], ..lent(random, list, words, place) };
     let (tick, leg, offset) = (random.any_size(), random.any_size(), random.any_size());
     let calls = [
         Call::Read,
@@ -110,6 +110,10 @@ fn on_refused(random: &mut Random, comparison: &mut Comparison, sheet: &[u8]) {
     ];
     for call in calls {
         try_call(random, comparison, call, sheet, &before);
+    }
+    if random.once_in(4) {
+        let tolerance = random.between(-1, 1);
+        try_call(random, comparison, Call::Strokes { tolerance }, sheet, &before);
     }
 }
 
@@ -135,6 +139,7 @@ fn on_accepted(random: &mut Random, comparison: &mut Comparison, sheet: &[u8], c
         runners(random, comparison, sheet, course);
         fleets::run(random, comparison, sheet, course, &own);
     }
+    drawings::run(random, comparison, sheet, course, &own);
 }
 
 /// A place by tick and one by runner, with the sheet's own bend numbers or changed ones.

@@ -136,6 +136,8 @@ pub fn run(comparison: &mut Comparison) {
     around_sixteen_legs(comparison);
     rounds_of_two(comparison);
     rounds_refused(comparison);
+    strokes_kept_and_cut(comparison);
+    strokes_refused(comparison);
     println!("worked courses: {} comparisons with the figures of group W", comparison.tally.compared(Part::Worked));
 }
 
@@ -341,4 +343,54 @@ fn rounds_refused(comparison: &mut Comparison) {
     served(comparison, on(&list), &fleet, 33, &format!("19 [-1, -1, -1] [77] {fleet:?}"));
     let moved = [&fleet[..63], &[2]].concat();
     served(comparison, on(&list), &fleet[..64], 31, &format!("0 [0, 10, 24] [0] {moved:?}"));
+}
+
+/// Strokes into a list of so many places; the answer, how many ends (-1 where that does not come), and the list (77 where nothing came).
+fn drawn(comparison: &mut Comparison, (sheet, list): (&[u8], &[i64]), tolerance: i64, places: usize, wanted: &str) {
+    let before = Lent { list: list.to_vec(), words: vec![u64::MAX; 3], ends: vec![77; places], ..Lent::default() };
+    let left = |answer, after: &Lent| format!("{answer} {} {:?}", after.words[0] as i64, after.ends);
+    expect(comparison, &Call::Strokes { tolerance }, sheet, &before, wanted.to_string(), left);
+}
+
+/// W19, on north alone and on all three axes; in lists with a place more than the answer, as many, and P + 1.
+fn strokes_kept_and_cut(comparison: &mut Comparison) {
+    let north = |draft: Draft| Draft { points: draft.points.iter().map(|point| [point[0], 0, 0]).collect(), ..draft };
+    let held = Draft::of(HELD, &[4], &[0, 16], Some([0, 0]));
+    let arch = Draft::of(FREE, &[16, 16], &[0, 800, 0], None);
+    let figures: [(Draft, i64, &[u64]); 7] = [
+        (Draft::of(FREE, &[2, 2], &[0, 8, 0], None), 1, &[0, 1, 2, 3, 4]),
+        (Draft::of(FREE, &[2, 2], &[0, 8, 0], None), 2, &[0, 2, 4]),
+        (held.clone(), 1, &[0, 2, 3, 4]),
+        (held, 2, &[0, 4]),
+        (arch.clone(), 20, &[0, 8, 12, 16, 20, 24, 32]),
+        (arch.clone(), 100, &[0, 8, 16, 24, 32]),
+        (arch, 1_000, &[0, 16, 32]),
+    ];
+    for (draft, tolerance, ends) in figures {
+        for draft in [north(draft.clone()), draft] {
+            let (sheet, list) = laid_out(comparison, &draft);
+            let ticks = draft.legs.iter().sum::<u16>();
+            for places in [ends.len(), ends.len() + 1, usize::from(ticks) + 1] {
+                let whole = [ends, &vec![77; places - ends.len()]].concat();
+                drawn(comparison, (&sheet, &list), tolerance, places, &format!("0 {} {whole:?}", ends.len()));
+            }
+            drawn(comparison, (&sheet, &list), tolerance, ends.len() - 1, &format!("22 -1 {:?}", vec![77; ends.len() - 1]));
+        }
+    }
+}
+
+/// What course A's strokes are refused by, in A15's order, and the limits of 21; a bad number behind the course's own does not matter.
+fn strokes_refused(comparison: &mut Comparison) {
+    let (a, list) = laid_out(comparison, &course_a());
+    let bad = |at: usize| (0..9).map(|i| if i == at { -(1 << 37) - 1 } else { list[i] }).collect::<Vec<i64>>();
+    for (tolerance, wanted) in [(-1, "21 -1 [77, 77]"), (0, "22 -1 [77, 77]"), (1_000, "22 -1 [77, 77]"), (1_001, "21 -1 [77, 77]")] {
+        drawn(comparison, (&a, &list), tolerance, 2, wanted);
+    }
+    for at in 0..9 {
+        drawn(comparison, (&a, &bad(at)), 2, 2, "12 -1 [77, 77]");
+        drawn(comparison, (&a, &bad(at)), 1_001, 5, "21 -1 [77, 77, 77, 77, 77]");
+    }
+    drawn(comparison, (&a, &[&list[..], &[i64::MIN]].concat()), 2, 4, "0 3 [0, 2, 4, 77]");
+    drawn(comparison, (&a, &list[..8]), -1, 0, "9 -1 []");
+    drawn(comparison, (&a[1..], &list[..8]), -1, 0, "1 -1 []");
 }

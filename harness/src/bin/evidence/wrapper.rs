@@ -66,3 +66,8 @@ pub fn write(lists: &Lists, page: &mut [u8]) -> Result<usize, Refusal> {
 pub fn join(first: &[u8], second: &[u8], page: &mut [u8]) -> Result<usize, Refusal> {
     station::join(first, second, page)
 }
+
+/// How many ends there are.
+pub fn strokes(sheet: &[u8], list: &[i64], tolerance: i64, ends: &mut [u64]) -> Result<usize, Refusal> {
+    station::strokes(sheet, list, tolerance, ends)
+}
