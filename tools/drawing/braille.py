@@ -3,7 +3,7 @@ import math
 
 # the bit of a dot by its row and column in a character
 BITS = ((0x01, 0x08), (0x02, 0x10), (0x04, 0x20), (0x40, 0x80))
-COLOURS = {"path": "36", "mark": "1;33", "label": "33", "axis": "2"}
+COLOURS = {"path": "36", "stroke": "35", "end": "1;35", "mark": "1;33", "label": "33", "axis": "2"}
 
 
 class Canvas:
@@ -11,7 +11,7 @@ class Canvas:
 
     def __init__(self, columns, rows):
         self.columns, self.rows = columns, rows
-        self.dots, self.text = {}, {}
+        self.dots, self.text, self.stroked = {}, {}, set()
 
     def dot(self, x, y):
         cell = x // 2, y // 4
@@ -28,6 +28,21 @@ class Canvas:
             if a != b:
                 self.line(a, b)
 
+    def strokes(self, dots):
+        """Strokes over a path that is drawn already, from dot to dot, and a mark at each end, unless marks would hide the lines."""
+        curve, self.dots = self.dots, {}
+        self.path(dots)
+        self.stroked = set(self.dots)
+        for cell, bits in curve.items():
+            self.dots[cell] = self.dots.get(cell, 0) | bits
+        cells = {(x // 2, y // 4) for x, y in dots}
+        if not self.crowded(cells):
+            self.text.update({cell: ("end", "+") for cell in cells})
+
+    def crowded(self, cells):
+        """Whether marks in these cells would hide the lines."""
+        return 3 * len(set(cells)) > len(self.dots) > 60
+
     def free(self, column, row):
         return 0 <= column < self.columns and 0 <= row < self.rows and (column, row) not in self.dots and (column, row) not in self.text
 
@@ -39,7 +54,7 @@ class Canvas:
         if cell in self.text:
             kind, shown = self.text[cell]
         elif cell in self.dots:
-            kind, shown = "path", chr(0x2800 + self.dots[cell])
+            kind, shown = "stroke" if cell in self.stroked else "path", chr(0x2800 + self.dots[cell])
         else:
             return " "
         return tinted(shown, kind, colour)
@@ -77,8 +92,7 @@ def multiples(step, low, high):
 def mark(canvas, dots):
     """Marks the waypoints and numbers those with room beside them; only these are marked where marks would hide the line."""
     cells = [(x // 2, y // 4) for x, y in dots]
-    crowded = 3 * len(set(cells)) > len(canvas.dots) > 60
-    if not crowded:
+    if not canvas.crowded(cells):
         canvas.text.update({cell: ("mark", "o") for cell in cells})
     numbered = set()
     for number, cell in enumerate(cells):
@@ -114,11 +128,14 @@ def plan(flight, columns, rows, colour):
         settled(4 + (place[1] - west) / scale for place in flight.places), settled(top + (north - place[0]) / scale for place in flight.places)
     ))
     canvas.path(dots)
+    if flight.ends:
+        canvas.strokes([dots[tick] for tick in flight.ends])
     mark(canvas, [dots[tick] for tick, _ in flight.waypoints])
     at_row = {round(top + (north - value) / scale) // 4: name for value, name in zip(multiples(step, south, north), names)}
     step = nice(east - west, max(canvas.columns // 9, 2))
     stops = {round(4 + (value - west) / scale) // 2: metres(value, step) for value in multiples(step, west, east)}
-    yield from framed(canvas, "north ↑ and east → in metres", at_row, stops, margin, colour)
+    caption = "north ↑ and east → in metres" + ("; a stroke ends at each + and each waypoint" if flight.ends else "")
+    yield from framed(canvas, caption, at_row, stops, margin, colour)
 
 
 def framed(canvas, caption, at_row, stops, margin, colour):
@@ -149,7 +166,10 @@ def strip(flight, columns, rows, colour):
     def depth(up):
         return (high - up) * tall / (high - low) if high > low else tall // 2
 
-    canvas.path(list(zip(settled(tick * wide / last for tick in range(len(flight.places))), settled(depth(place[2]) for place in flight.places))))
+    dots = list(zip(settled(tick * wide / last for tick in range(len(flight.places))), settled(depth(place[2]) for place in flight.places)))
+    canvas.path(dots)
+    if flight.ends:
+        canvas.strokes([dots[tick] for tick in flight.ends])
     at_row = {round(depth(value)) // 4: name for value, name in zip(values, names)}
     step = nice(last * 100, max(canvas.columns // 12, 2))
     stops = {round(value * wide / last / 100) // 2: metres(value, step) for value in multiples(step, 0, last * 100)}

@@ -14,10 +14,12 @@ class Refused(Exception):
 
 
 class Flight:
-    """`places` has (north, east, up) for each tick; `waypoints` has (tick, place), none without a sheet."""
+    """`places` has (north, east, up) for each tick; `waypoints` has (tick, place), none without a sheet. Where strokes are asked for, `ends` has the
+    ticks of their ends, and `tolerance` is theirs."""
 
     def __init__(self, places):
         self.places, self.waypoints, self.closed = places, [], False
+        self.ends, self.tolerance = [], None
 
     @property
     def ticks(self):
@@ -121,7 +123,7 @@ def bow(flight):
 
 
 def summary(flight):
-    """Length, speed, climb, ticks and bow in one line. Ten ticks are a second, so a millimetre a tick is a hundredth of a metre a second."""
+    """Length, speed, climb, ticks, bow and strokes in one line. Ten ticks are a second, so a millimetre a tick is a hundredth of a metre a second."""
     steps = list(zip(flight.places, flight.places[1:]))
     lengths = [math.dist(a, b) for a, b in steps]
     climb = max((b[2] - a[2] for a, b in steps), default=0)
@@ -131,5 +133,7 @@ def summary(flight):
         f"greatest climb {max(climb, 0) / 100:.2f} m/s",
         f"{flight.ticks} ticks",
     ]
-    most = bow(flight)
-    return ", ".join(parts + ([] if most is None else [f"bow {most / 1000:.2f} m"]))
+    most, strokes = bow(flight), len(flight.ends) - 1
+    parts += [] if most is None else [f"bow {most / 1000:.2f} m"]
+    parts += [f"{strokes} stroke{'' if strokes == 1 else 's'} at {flight.tolerance} mm"] if flight.ends else []
+    return ", ".join(parts)

@@ -1,7 +1,8 @@
 """A flight as a vector picture: plan above, height profile below; for tools/draw.
 
 The lines flown are two paths whose data are the printed numbers themselves, in millimetres: `plan` has EAST,-NORTH, `profile` has ACROSS,-UP, where
-ACROSS is the tick times the path's data-tick. A transform with one scale brings them to the page. All else is drawn in the page's own units."""
+ACROSS is the tick times the path's data-tick. A transform with one scale brings them to the page. Strokes over them are two more paths of the same
+kind, `strokes` and `profile-strokes`; data-ends of the first has the ticks of their ends. All else is drawn in the page's own units."""
 import math
 from decimal import Decimal
 from html import escape
@@ -19,6 +20,8 @@ STYLE = """
   .grid { stroke: #dfe5e2; stroke-width: 1; }
   .frame { fill: #ffffff; stroke: #b9c6c6; stroke-width: 1; }
   .flown { fill: none; stroke: #12608c; stroke-linejoin: round; stroke-linecap: round; }
+  .stroked { fill: none; stroke: #d6740f; stroke-linejoin: round; stroke-linecap: round; }
+  .end { fill: #d6740f; }
   .second { stroke: #c8452d; stroke-width: 1.6; }
   .minute { font-size: 11px; font-weight: bold; fill: #c8452d; }
   .arrow { fill: #12608c; }
@@ -41,11 +44,11 @@ class Frame:
     def at(self, across, down):
         return self.left + (across - self.across[0]) * self.scale, self.top + (down - self.down[0]) * self.scale
 
-    def flown(self, points, attributes):
+    def line(self, points, attributes, kind="flown", wide=2):
         """The line through points, given as the text of their numbers."""
         x, y = self.at(0, 0)
         yield f'<g transform="translate({x:.6f} {y:.6f}) scale({self.scale:.12g})">'
-        yield f'<path class="flown" {attributes} stroke-width="{2 / self.scale:.6g}" d="M{" L".join(points)}"/>'
+        yield f'<path class="{kind}" {attributes} stroke-width="{wide / self.scale:.6g}" d="M{" L".join(points)}"/>'
         yield "</g>"
 
     def axes(self, across, down, names):
@@ -108,7 +111,7 @@ def plan_frame(flight):
 
 
 def seconds(flight, frame, room):
-    """A stroke across the line each ten seconds, a longer one each minute, with the time at sixteen of them at most."""
+    """A dash across the line each ten seconds, a longer one each minute, with the time at sixteen of them at most."""
     named = 600 * math.ceil(flight.ticks / 600 / 16)
     for tick in range(100, flight.ticks + 1, 100):
         x, y = frame.at(flight.places[tick][1], -flight.places[tick][0])
@@ -146,7 +149,7 @@ def beside(room, point, towards, text, kind, letter, tall, gap):
 
 
 def arrows(flight, frame):
-    """Twelve arrows at about equal distances, clear of waypoints and strokes."""
+    """Twelve arrows at about equal distances, clear of waypoints and dashes."""
     points = [frame.at(place[1], -place[0]) for place in flight.places]
     flown = list(accumulate((math.dist(a, b) for a, b in zip(points, points[1:])), initial=0))
     shunned = set().union(*(Room.squares(x - 12, y - 12, 24, 24) for x, y in [points[tick] for tick, _ in flight.waypoints] + points[100::100]))
@@ -181,11 +184,24 @@ def plan(flight):
     room.line([frame.at(place[1], -place[0]) for place in flight.places])
     step = nice(frame.across[1] - frame.across[0], 12)
     yield from frame.axes(numbers(step, *frame.across), numbers(step, *frame.down, -1), ("east, m", "north, m"))
-    yield from frame.flown([f"{place[1]},{-place[0]}" for place in flight.places], 'id="plan"')
+    points = [f"{place[1]},{-place[0]}" for place in flight.places]
+    yield from frame.line(points, 'id="plan"')
     yield from dots(flight, [frame.at(place[1], -place[0]) for place in flight.places])
+    yield from strokes(flight, frame, points, f'id="strokes" data-ends="{" ".join(map(str, flight.ends))}"')
+    for tick in flight.ends:
+        north, east, up = flight.places[tick]
+        x, y = frame.at(east, -north)
+        told = f"end of a stroke, tick {tick}: north {north}, east {east}, up {up}"
+        yield f'<circle class="end" cx="{x:.2f}" cy="{y:.2f}" r="2.6"><title>{told}</title></circle>'
     yield from arrows(flight, frame)
     yield from seconds(flight, frame, room)
     yield from waypoints(flight, frame, room)
+
+
+def strokes(flight, frame, points, attributes):
+    """The strokes over the line through all points, where they are asked for."""
+    if flight.ends:
+        yield from frame.line([points[tick] for tick in flight.ends], attributes, "stroked", 1.2)
 
 
 def dots(flight, points):
@@ -204,7 +220,9 @@ def profile(flight, top):
     times = [(value * float(across) / 100, metres(value, time)) for value in multiples(time, 0, ticks * 100)]
     yield from frame.axes(times, numbers(step, *frame.down, -1), ("time, s", "height, m"))
     points = [(across * tick, -place[2]) for tick, place in enumerate(flight.places)]
-    yield from frame.flown([f"{x:f},{y}" for x, y in points], f'id="profile" data-tick="{across:f}"')
+    texts = [f"{x:f},{y}" for x, y in points]
+    yield from frame.line(texts, f'id="profile" data-tick="{across:f}"')
+    yield from strokes(flight, frame, texts, 'id="profile-strokes"')
     yield from dots(flight, [frame.at(float(x), y) for x, y in points])
     for number, (tick, place) in enumerate(flight.waypoints):
         x, y = frame.at(float(across * tick), -place[2])
