@@ -7,6 +7,7 @@ pub mod Omega
 pub mod Sums
 pub mod Extremes
 pub mod Products
+pub mod Rounds
 pub mod Machine
 pub mod Made
 pub mod Tried
