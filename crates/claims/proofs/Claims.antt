@@ -22,11 +22,11 @@ use Rattle.spline.proofs.OneCurve.{one-curve}
 use Rattle.spline.proofs.Bends.{bends-near, bends-bounded, position-near}
 use Rattle.spline.proofs.Distance.{position-sharp}
 use Rattle.layout.proofs.Near.{course-in-bounds, laid-out-near}
-use Rattle.runner.proofs.Standing.{tick-stands, leg-by-sums, one-runner}
-use Rattle.runner.proofs.Onward.{closed-steps, open-steps, step-before}
+use Rattle.runner.proofs.Standing.{tick-stands, leg-by-sums, flown-parts, one-runner}
+use Rattle.runner.proofs.Onward.{closed-steps, closed-steps-on, open-steps, step-before}
 use Rattle.runner.proofs.Backward.{back-behind, back-tick, back-ticks}
-use Rattle.runner.proofs.Restored.{back-after-step, step-after-back, backs-after-steps, steps-after-backs}
-use Rattle.runner.proofs.Worked.{moves-tried, search-tried}
+use Rattle.runner.proofs.Restored.{back-after-step, back-after-kept, step-after-back, backs-after-steps, steps-after-backs}
+use Rattle.runner.proofs.Worked.{moves-tried, laps-tried, search-tried}
 use Rattle.flights.proofs.Worked.{rounds-tried}
 use Rattle.flights.proofs.Once.{every-seat-once}
 use Rattle.flights.proofs.Apart.{others-kept, seats-apart}
@@ -88,12 +88,15 @@ claims = record {
     leg-ends-met = leg-ends-met;
     waypoint-met-at-tick = waypoint-met-at-tick;
     waypoint-met-by-runner = waypoint-met-by-runner;
+    flown-parts = flown-parts;
     one-runner = one-runner;
     closed-steps = closed-steps;
+    closed-steps-on = closed-steps-on;
     open-steps = open-steps;
     back-tick = back-tick;
     back-ticks = back-ticks;
     back-after-step = back-after-step;
+    back-after-kept = back-after-kept;
     step-after-back = step-after-back;
     backs-after-steps = backs-after-steps;
     steps-after-backs = steps-after-backs;
@@ -129,6 +132,7 @@ claims = record {
     search-tried = search-tried;
     rounds-tried = rounds-tried;
     strokes-tried = strokes-tried;
+    laps-tried = laps-tried;
     chord-not-near = chord-not-near;
   };
   demand3 = claim;

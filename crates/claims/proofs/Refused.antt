@@ -14,7 +14,7 @@ use Rattle.runner.specs.Backs.{movedBack, backed, backward}
 use Rattle.place.specs.Places.{placeAtTick, placeOfRunner}
 use Rattle.seat.specs.Serving.{admitted, nextTurn, served, turnAfter}
 use Rattle.fleet.proofs.Lent.{fleet-kept}
-use Rattle.fleet.proofs.Pairs.{numbers-kept}
+use Rattle.fleet.proofs.Triples.{numbers-kept}
 use Rattle.strokes.specs.Strokes.{strokesAnswer, drawnInto}
 use Rattle.claims.specs.Refused.{RefusalPassedOn, RefusedKeepsList, RefusedKeepsRecord, RefusedKeepsFleet, RefusedKeepsEnds, RefusedKeepsSlice}
 

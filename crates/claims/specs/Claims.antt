@@ -12,9 +12,9 @@ use Rattle.rounding.specs.Theorems.{RoundedNearest, RoundedMirrored}
 use Rattle.systems.specs.Theorems.{Solvable, Unique, SolutionBounded, PassesNear, FortyPassesNear, PassesBounded, EarlyEnd}
 use Rattle.spline.specs.Theorems.{RowGap, RowsFollow, SplineExists, OneCurve, BendsNear, FreePairZeros, BendsBounded, PositionSharp, PositionNear}
 use Rattle.layout.specs.Theorems.{CourseInBounds, LaidOutNear}
-use Rattle.runner.specs.Theorems.{TickStands, LegBySums, OneRunner, ClosedSteps, OpenSteps, StepBefore}
-use Rattle.runner.specs.Restored.{BackBehind, BackTick, BackTicks, BackAfterStep, StepAfterBack, BacksAfterSteps, StepsAfterBacks}
-use Rattle.runner.specs.Worked.{MovesTried, SearchTried}
+use Rattle.runner.specs.Theorems.{FlownParts, TickStands, LegBySums, OneRunner, ClosedSteps, ClosedStepsOn, OpenSteps, StepBefore}
+use Rattle.runner.specs.Restored.{BackBehind, BackTick, BackTicks, BackAfterStep, BackAfterKept, StepAfterBack, BacksAfterSteps, StepsAfterBacks}
+use Rattle.runner.specs.Worked.{MovesTried, LapsTried, SearchTried}
 use Rattle.flights.specs.Theorems.{EverySeatOnce, OthersKept, SeatsApart, TurnsMove, ServedNear, FlyingServed}
 use Rattle.flights.specs.Worked.{RoundsTried}
 use Rattle.stretch.specs.Theorems.{KeptOrCut, EightCuts}
@@ -76,7 +76,7 @@ pub record Demand2 : Type 0 where
   pub bends-mirrored : BendsMirrored
   pub position-mirrored : PositionMirrored
   pub sheet-mirrored : SheetMirrored
-  -- P3, P4
+  -- P3, P4, M10
   pub tick-stands : TickStands
   -- P7
   pub leg-by-sums : LegBySums
@@ -84,10 +84,12 @@ pub record Demand2 : Type 0 where
   pub leg-ends-met : LegEndsMet
   pub waypoint-met-at-tick : WaypointMetAtTick
   pub waypoint-met-by-runner : WaypointMetByRunner
-  -- M1, M3: no two runners stand at one tick
+  -- M11: the ticks flown tell tick and laps, and no two runners have flown the same
+  pub flown-parts : FlownParts
   pub one-runner : OneRunner
   -- M4
   pub closed-steps : ClosedSteps
+  pub closed-steps-on : ClosedStepsOn
   -- M5
   pub open-steps : OpenSteps
   -- M7
@@ -95,6 +97,7 @@ pub record Demand2 : Type 0 where
   pub back-ticks : BackTicks
   -- M8
   pub back-after-step : BackAfterStep
+  pub back-after-kept : BackAfterKept
   pub step-after-back : StepAfterBack
   -- M9
   pub backs-after-steps : BacksAfterSteps
@@ -155,6 +158,8 @@ pub record Demand2 : Type 0 where
   pub rounds-tried : RoundsTried
   -- W19
   pub strokes-tried : StrokesTried
+  -- W20
+  pub laps-tried : LapsTried
   -- K4, K8: zeros in place of bend numbers fail on tenfold A
   pub chord-not-near : ChordNotNear
 

@@ -1,5 +1,5 @@
 -- With own bend numbers (H7): neither 9 nor 12 applies, by demand 3; and a stroke is as near to the exact spline as its places, and the tolerance.
-use mathlib.Core.Path.{_≡_, ap}
+use mathlib.Core.Path.{_≡_, refl, ap}
 use mathlib.Core.Bool.{false}
 use mathlib.Core.List.{List}
 use Prim.Native.Nat.{ℕ, _+_, _-_, _*_, _≤_, _<_}
@@ -41,7 +41,7 @@ module _ (s : List ℕ) (a : Accepted s) (list : List ℤ) (own : Own s list) wh
   unfolding placeOfRunner
   leg-answered i h =
       let r = runner i 0 in
-      let z = ap (λ (x : Told). x .number) (claim s a .by-runner list own r (not-adrift s r (on-leg h (accepted-bounds s a .leg-low i h))) .place) in
+      let z = ap (λ (x : Told). x .number) (claim s a .by-runner list own r (not-adrift s r (on-leg h (accepted-bounds s a .leg-low i h) (λ _. refl))) .place) in
       let p = not-passed-on s _ z in
       let q = not-refused (short s (length list)) Shelf _ (p .1) in
       let d = not-refused (adrift s r) Adrift _ (q .1) in

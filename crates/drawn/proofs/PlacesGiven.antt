@@ -25,10 +25,10 @@ use Rattle.layout.specs.Course.{course}
 use Rattle.layout.specs.Layout.{short}
 use Rattle.runner.specs.Ticks.{runner, reduced, past, spotAt, tickOf}
 use Rattle.runner.specs.declared.Runner.{Runner}
-use Rattle.runner.proofs.Standing.{on-leg, standing, not-adrift, leg-below, tick-before, spot-of}
+use Rattle.runner.proofs.Standing.{on-leg, standing, not-adrift, leg-below, tick-before, no-lap-flown, spot-of, tick-stands}
 use Rattle.place.specs.Places.{endOf, bendOutside, placeOn, placed, placeAtTick, placeOfRunner}
 use Rattle.place.proofs.Ends.{end-met}
-use Rattle.place.proofs.Waypoints.{spot-fits, tick-is-runner, waypoint-met-at-tick}
+use Rattle.place.proofs.Waypoints.{tick-is-runner, waypoint-met-at-tick}
 use Rattle.strokes.specs.Strokes.{placesOn}
 use Rattle.strokes.proofs.LegByLeg.{end-inside}
 use Rattle.drawn.specs.Given.{given}
@@ -74,9 +74,9 @@ module _ (s : List ℕ) (a : Accepted s) (list : List ℤ) (room : short s (leng
   before-end : (i u : ℕ) → i < legs s → u < leg s i → placeAtTick s list (sumBelow (leg s) i + u) ≡ placed s list (runner i u)
   unfolding tickOf placeOfRunner
   before-end i u h k =
-      let r = runner i u in let stands = on-leg h k in
+      let r = runner i u in let stands = on-leg h k (λ _. refl) in
       tick-is-runner s list (tickOf s r) (not-past (tickOf s r) (omega (arith, tick-before s r h k)))
-      ∙ ap (placeOfRunner s list) (sym (spot-of s r stands))
+      ∙ ap (placeOfRunner s list) (ap (spotAt s) (sym (no-lap-flown s r refl)) ∙ spot-of s r stands)
       ∙ simp (accepted-read s a, room, not-adrift s r stands, bends i h)
 
   at-end : (i : ℕ) → i < legs s → placeAtTick s list (sumBelow (leg s) i + leg s i) ≡ placed s list (runner i (leg s i))
@@ -84,7 +84,7 @@ module _ (s : List ℕ) (a : Accepted s) (list : List ℤ) (room : short s (leng
   at-end i h =
       let t = sumBelow (leg s) (suc i) in
       let free = not-past t (sum-monotone (leg s) (suc i) (legs s) h) in
-      let spot = leg-below s (spotAt s t) (standing s (spotAt s t) (spot-fits s a t free)) in
+      let spot = leg-below s (spotAt s t) (standing s (spotAt s t) (tick-stands s a t free .fits)) in
       waypoint-met-at-tick s a list room (endOf s i) (end-inside s i (omega (arith, legs-at-most (kind s) (points s)))) t (tick-of-end s a i h) (bends (spotAt s t .leg) spot)
       ∙ sym (λ j. record { number = 0; values = end-met s a list i h 0 j ∷ end-met s a list i h 1 j ∷ end-met s a list i h 2 j ∷ [] })
 

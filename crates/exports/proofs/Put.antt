@@ -22,17 +22,12 @@ module _ {A : Type 0} where
   unfolding put
   put-none values out h = sym (ap (λ (b : Bool). cond b (values ++ drop (length values) out) out) (lt-leb (length values) (length out) h))
 
-  -- three stores, two, and one
+  -- three stores, and one
   pub three-stored : (a b c : A) (out : List A) → 3 ≤ length out → set (set (set out 0 a) 1 b) 2 c ≡ put (a ∷ b ∷ c ∷ []) out
   three-stored a b c [] h = absurd (omega arith)
   three-stored a b c (x ∷ []) h = absurd (omega arith)
   three-stored a b c (x ∷ y ∷ []) h = absurd (omega arith)
   three-stored a b c (x ∷ y ∷ z ∷ out) h = put-room (a ∷ b ∷ c ∷ []) (x ∷ y ∷ z ∷ out) h
-
-  pub two-stored : (a b : A) (out : List A) → 2 ≤ length out → set (set out 0 a) 1 b ≡ put (a ∷ b ∷ []) out
-  two-stored a b [] h = absurd (omega arith)
-  two-stored a b (x ∷ []) h = absurd (omega arith)
-  two-stored a b (x ∷ y ∷ out) h = put-room (a ∷ b ∷ []) (x ∷ y ∷ out) h
 
   pub one-stored : (a : A) (out : List A) → 1 ≤ length out → set out 0 a ≡ put (a ∷ []) out
   one-stored a [] h = absurd (omega arith)

@@ -9,7 +9,7 @@ use Rattle.sheet.specs.Answers.{Told, refused}
 use Rattle.sheet.specs.Reading.{readSheet}
 use Rattle.sheet.specs.declared.Refusal.the-variants.{Adrift}
 use Rattle.answers.specs.Answers.{passOn}
-use Rattle.runner.specs.Ticks.{runner}
+use Rattle.runner.specs.Ticks.{runner, atLap}
 use Rattle.runner.specs.declared.Runner.{Runner}
 
 -- the values at the front of the slice where it has room for them, and the slice as it was where it has not; the rest is kept
@@ -37,6 +37,9 @@ writtenUnsigned = writtenBy unsigned
 abbrev pub noRunner : List ℕ → Told
 noRunner s = passOn (readSheet s) (refused Adrift)
 
--- a lent runner is two numbers, leg and offset; a shorter slice holds none. `call` is step or back by value
+-- a lent runner is three numbers, leg, offset and laps; a shorter slice holds none. `call` is step or back by value
+abbrev pub lentRunner : List ℕ → Runner
+lentRunner r = atLap (getD r 2 0) (runner (getD r 0 0) (getD r 1 0))
+
 unfoldable pub movedSlice : (List ℕ → Runner → Told) → List ℕ → List ℕ → Told
-movedSlice call s r = cond (leb 2 (length r)) (call s (runner (getD r 0 0) (getD r 1 0))) (noRunner s)
+movedSlice call s r = cond (leb 3 (length r)) (call s (lentRunner r)) (noRunner s)

@@ -22,7 +22,7 @@ ghost use Rattle.lists.specs.Answer.{toldWritten, writeSheet};
 ghost use Rattle.writer.specs.Writing.{writtenInto};
 ghost use Rattle.join.specs.Joining.{joinSheets, joinedInto};
 ghost use Rattle.layout.specs.Layout.{layOut, laidOut};
-ghost use Rattle.runner.specs.Ticks.{runner, toldRunner, runnerAtTick};
+ghost use Rattle.runner.specs.Ticks.{runner, atLap, toldRunner, runnerAtTick};
 ghost use Rattle.runner.specs.Steps.{stepped};
 ghost use Rattle.runner.specs.Backs.{backed};
 ghost use Rattle.place.specs.Places.{toldPlaced, placeAtTick, placeOfRunner};
@@ -43,7 +43,7 @@ fn kind_number(kind: EndKind) -> u64
     }
 }
 
-// Results at the front of a slice that has room for them: three unsigned, two unsigned, one unsigned, three signed.
+// Results at the front of a slice that has room for them: three unsigned, one unsigned, three signed.
 fn put_three(out: &mut [u64], a: u64, b: u64, c: u64)
     ensures { λ _. ⌜ now (out .exit) ≡ put (a ∷ b ∷ c ∷ []) (now (out .entry)) ⌝ }
 {
@@ -51,15 +51,6 @@ fn put_three(out: &mut [u64], a: u64, b: u64, c: u64)
         out[0] = a;
         out[1] = b;
         out[2] = c;
-    }
-}
-
-fn put_two(out: &mut [u64], a: u64, b: u64)
-    ensures { λ _. ⌜ now (out .exit) ≡ put (a ∷ b ∷ []) (now (out .entry)) ⌝ }
-{
-    if 2 <= out.len() {
-        out[0] = a;
-        out[1] = b;
     }
 }
 
@@ -150,13 +141,14 @@ pub extern "C" fn station_place_of_runner(
     list: &[i64],
     leg: u64,
     offset: u64,
+    laps: u64,
     out: &mut [i64],
 ) -> u64
-    ensures answer { λ r. ⌜ r ≡ placeOfRunner (now (sheet .entry)) (now (list .entry)) (runner leg offset) .number ⌝ }
-    ensures out { λ r. ⌜ now (out .exit) ≡ written (placeOfRunner (now (sheet .entry)) (now (list .entry)) (runner leg offset)) (now (out .entry)) ⌝ }
+    ensures answer { λ r. ⌜ r ≡ placeOfRunner (now (sheet .entry)) (now (list .entry)) (atLap laps (runner leg offset)) .number ⌝ }
+    ensures out { λ r. ⌜ now (out .exit) ≡ written (placeOfRunner (now (sheet .entry)) (now (list .entry)) (atLap laps (runner leg offset))) (now (out .entry)) ⌝ }
 {
-    let answer = place::place_of_runner(sheet, list, Runner { leg, offset });
-    tell_place(answer, out)
+    let at = Runner { leg, offset, laps };
+    tell_place(place::place_of_runner(sheet, list, at), out)
 }
 
 // The runner into the slice, or the refusal's number.
@@ -166,14 +158,14 @@ fn tell_runner(answer: RunnerAnswer, out: &mut [u64]) -> u64
 {
     match answer {
         RunnerAnswer::At(at) => {
-            put_two(out, at.leg, at.offset);
+            put_three(out, at.leg, at.offset, at.laps);
             0
         }
         RunnerAnswer::Refused(r) => number_of(r),
     }
 }
 
-// out = leg, offset
+// out = leg, offset, laps
 #[no_mangle]
 pub extern "C" fn station_runner_at_tick(sheet: &[u8], tick: u64, out: &mut [u64]) -> u64
     ensures answer { λ r. ⌜ r ≡ runnerAtTick (now (sheet .entry)) tick .number ⌝ }
@@ -196,32 +188,34 @@ fn no_runner(sheet: &[u8]) -> RunnerAnswer
     }
 }
 
-// lent = leg, offset, moved on in place
+// lent = leg, offset, laps, moved on in place
 #[no_mangle]
 pub extern "C" fn station_step(sheet: &[u8], lent: &mut [u64]) -> u64
     ensures answer { λ r. ⌜ r ≡ movedSlice stepped (now (sheet .entry)) (now (lent .entry)) .number ⌝ }
     ensures lent { λ r. ⌜ now (lent .exit) ≡ writtenUnsigned (movedSlice stepped (now (sheet .entry)) (now (lent .entry))) (now (lent .entry)) ⌝ }
 {
-    if lent.len() < 2 {
+    if lent.len() < 3 {
         return tell_runner(no_runner(sheet), lent);
     }
     let leg = lent[0];
     let offset = lent[1];
-    tell_runner(runner::stepped(sheet, Runner { leg, offset }), lent)
+    let laps = lent[2];
+    tell_runner(runner::stepped(sheet, Runner { leg, offset, laps }), lent)
 }
 
-// lent = leg, offset, moved back in place
+// lent = leg, offset, laps, moved back in place
 #[no_mangle]
 pub extern "C" fn station_back(sheet: &[u8], lent: &mut [u64]) -> u64
     ensures answer { λ r. ⌜ r ≡ movedSlice backed (now (sheet .entry)) (now (lent .entry)) .number ⌝ }
     ensures lent { λ r. ⌜ now (lent .exit) ≡ writtenUnsigned (movedSlice backed (now (sheet .entry)) (now (lent .entry))) (now (lent .entry)) ⌝ }
 {
-    if lent.len() < 2 {
+    if lent.len() < 3 {
         return tell_runner(no_runner(sheet), lent);
     }
     let leg = lent[0];
     let offset = lent[1];
-    tell_runner(runner::backed(sheet, Runner { leg, offset }), lent)
+    let laps = lent[2];
+    tell_runner(runner::backed(sheet, Runner { leg, offset, laps }), lent)
 }
 
 // The next turn into the slice, if there is one.
@@ -234,7 +228,7 @@ fn tell_turn(next: NextTurn, out: &mut [u64])
     }
 }
 
-// lent = leg, offset of each seat in turn, one of them moved on in place; place = north, east, up; next = the next turn, which a seat's own refusal has too
+// lent = leg, offset, laps of each seat in turn, one of them moved on in place; place = north, east, up; next = the next turn, which a seat's own refusal has too
 #[no_mangle]
 pub extern "C" fn station_round(
     sheet: &[u8],

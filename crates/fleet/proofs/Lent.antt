@@ -13,7 +13,7 @@ use Rattle.answers.proofs.Guards.{number-keeps}
 use Rattle.spline.specs.Spline.{next}
 use Rattle.layout.specs.Course.{course}
 use Rattle.runner.specs.Ticks.{runner}
-use Rattle.runner.specs.Steps.{adrift, moved}
+use Rattle.runner.specs.Steps.{offLegs, adrift, moved}
 use Rattle.runner.specs.Worked.{sheetA}
 use Rattle.runner.specs.declared.Runner.{Runner}
 use Rattle.place.specs.Places.{bendOutside, toldPlaced, placeHeld}
@@ -25,7 +25,7 @@ use Rattle.fleet.specs.Round.{seatOf, roundAnswer, turnGiven, fleetAfter
 
 -- tried: seat 1 goes over the waypoint, and seat 0 stays where it is
 other-tried : fleetAfter sheetA (replicate 9 (pos 0)) (runner 0 0 ∷ runner 0 1 ∷ []) 1 ≡ runner 0 0 ∷ runner 1 0 ∷ []
-unfolding be16 be32 signed32 anyBelow sumBelow readBy course next adrift moved bendOutside flown served seatAfter fleetAfter
+unfolding be16 be32 signed32 anyBelow sumBelow readBy course next offLegs adrift moved bendOutside flown served seatAfter fleetAfter
 other-tried = refl
 
 -- where an element of a slice starts, in bytes, fits a usize

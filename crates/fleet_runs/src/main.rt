@@ -13,6 +13,9 @@ use seat::NextTurn;
 // One over 2^37
 const BEYOND: i64 = 137438953473;
 
+// The largest count of laps
+const LAST: u64 = 18446744073709551615;
+
 fn print(text: &[u8]) {
     io::write_all(STDOUT_FILENO, text);
 }
@@ -90,7 +93,14 @@ fn show_pair(s: &[u8], list: &[i64], pair: [Runner; 2], turn: u64) -> PairOutcom
     let after = outcome.pair;
     let first = after[0];
     let second = after[1];
-    let numbers = [first.leg, first.offset, second.leg, second.offset];
+    let numbers = [
+        first.leg,
+        first.offset,
+        first.laps,
+        second.leg,
+        second.offset,
+        second.laps,
+    ];
     show_records(&numbers);
     outcome
 }
@@ -122,15 +132,46 @@ fn fly(name: &[u8], s: &[u8], list: &[i64], lent: &mut [u64], first: u64, rounds
 fn fly_open(s: &[u8]) {
     let mut list = [7; 9];
     layout::lay_out(s, &mut list);
-    let mut lent = [0, 0, 1, 1, 1, 2, 0, 2];
+    let mut lent = [0, 0, 0, 1, 1, 0, 1, 2, 0, 0, 2, 0];
     fly(b"A, four seats", s, &list, &mut lent, 0, 18);
-    let first = Runner { leg: 0, offset: 1 };
-    let second = Runner { leg: 1, offset: 1 };
+    let first = Runner {
+        leg: 0,
+        offset: 1,
+        laps: 0,
+    };
+    let second = Runner {
+        leg: 1,
+        offset: 1,
+        laps: 0,
+    };
     fly_pair(b"A, a pair on lent records", s, &list, [first, second]);
-    let mut odd = [0, 0, 1, 0, 9];
+}
+
+// Course A with numbers left over behind the seats, and with a lap, which no open course takes.
+fn fly_odd(s: &[u8]) {
+    let mut list = [7; 9];
+    layout::lay_out(s, &mut list);
+    let mut odd = [0, 0, 0, 1, 0, 0, 9];
     fly(b"A, two seats and a number more", s, &list, &mut odd, 1, 4);
+    let mut odder = [0, 0, 0, 1, 0, 0, 9, 8];
+    fly(
+        b"A, two seats and two numbers more",
+        s,
+        &list,
+        &mut odder,
+        1,
+        4,
+    );
+    let mut lapped = [0, 0, 1, 1, 0, 0];
+    fly(b"A, two seats, one with a lap", s, &list, &mut lapped, 0, 4);
+}
+
+// Course A with a bad bend number, at its last waypoint and then at its first.
+fn fly_bent(s: &[u8]) {
+    let mut list = [7; 9];
+    layout::lay_out(s, &mut list);
     list[2] = BEYOND;
-    let mut bent = [0, 0, 0, 1];
+    let mut bent = [0, 0, 0, 0, 1, 0];
     fly(
         b"A, two seats, a bad bend number at the last waypoint",
         s,
@@ -141,7 +182,7 @@ fn fly_open(s: &[u8]) {
     );
     list[2] = 0;
     list[0] = BEYOND;
-    let mut left = [0, 0, 0, 1];
+    let mut left = [0, 0, 0, 0, 1, 0];
     fly(
         b"A, two seats, a bad bend number at the first waypoint",
         s,
@@ -155,10 +196,10 @@ fn fly_open(s: &[u8]) {
 // On course A, calls that no seat is asked for.
 fn fly_nobody(s: &[u8]) {
     let list = [0; 9];
-    let mut kept = [0, 0];
+    let mut kept = [0, 0, 0];
     fly(b"A, a turn that is no seat's", s, &list, &mut kept, 1, 1);
     let short = [0; 8];
-    let mut with_short = [0, 0];
+    let mut with_short = [0, 0, 0];
     fly(
         b"A, a list that is too short",
         s,
@@ -167,26 +208,34 @@ fn fly_nobody(s: &[u8]) {
         1,
         1,
     );
-    let mut with_torn = [0, 0];
+    let mut with_torn = [0, 0, 0];
     fly(b"a torn sheet", b"", &list, &mut with_torn, 0, 1);
 }
 
-// The closed course: three seats, twice round.
+// The closed course: three seats, twice round, one of them with the largest count of laps.
 fn fly_closed() {
     let s =
         b"\x00\x00\x00\x40\x01\x02\x00\x04\x00\x02\x00\x02\x00\x02\x00\x02\x00\x00\x00\x00\x00\x00\x00\x00\x00\x00\x00\x00\x00\x00\x00\x06\x00\x00\x00\x00\x00\x00\x00\x00\x00\x00\x00\x00\x00\x00\x00\x00\x00\x00\x00\x00\xff\xff\xff\xfa\x00\x00\x00\x00\x00\x00\x00\x00";
     let mut list = [7; 12];
     layout::lay_out(s, &mut list);
-    let mut lent = [3, 1, 0, 0, 1, 1];
-    fly(b"closed, three seats", s, &list, &mut lent, 2, 24);
-    let last = Runner { leg: 3, offset: 1 };
-    let lost = Runner { leg: 4, offset: 0 };
+    let mut lent = [3, 1, 0, 0, 0, 7, 1, 1, LAST];
+    fly(b"closed, three seats", s, &list, &mut lent, 2, 48);
+    let last = Runner {
+        leg: 3,
+        offset: 1,
+        laps: LAST - 1,
+    };
+    let lost = Runner {
+        leg: 4,
+        offset: 0,
+        laps: 0,
+    };
     fly_pair(b"closed, a pair on lent records", s, &list, [last, lost]);
-    let mut most = [0; 64];
+    let mut most = [0; 96];
     fly(b"closed, 32 seats", s, &list, &mut most, 31, 2);
-    let mut many = [0; 66];
+    let mut many = [0; 99];
     fly(b"closed, 33 seats", s, &list, &mut many, 40, 1);
-    let mut none = [5];
+    let mut none = [5, 6];
     fly(b"closed, no seat", s, &list, &mut none, 0, 1);
 }
 
@@ -194,6 +243,8 @@ fn main() {
     let a =
         b"\x00\x00\x00\x30\x01\x00\x00\x03\x00\x02\x00\x02\x00\x00\x00\x00\x00\x00\x00\x0a\x00\x00\x00\x14\x00\x00\x00\x08\x00\x00\x00\x0a\x00\x00\x00\x16\x00\x00\x00\x00\x00\x00\x00\x0a\x00\x00\x00\x18";
     fly_open(a);
+    fly_odd(a);
+    fly_bent(a);
     fly_nobody(a);
     fly_closed();
 }

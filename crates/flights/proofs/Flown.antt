@@ -1,33 +1,30 @@
 -- A seat that is served has made a step (Q6), and the place that it is told is the one that demand 3 speaks of (Q7).
 use mathlib.Core.Path.{_≡_, refl, sym, ap, subst, _∙_}
-use mathlib.Core.Bool.{Bool, true, false, cond}
+use mathlib.Core.Bool.{true, false, cond}
 use mathlib.Core.List.{List}
 use mathlib.Core.Logic.{⊎-elim}
-use Prim.Native.Nat.{ℕ, zero, suc, _+_, _%_, _≤_, _<_}
+use Prim.Native.Nat.{ℕ, zero, suc, _+_, _≤_, min}
 use native.Mathlib.Omega.{arith}
-use lib.Dec.{eqb}
 use lib.IntN.{ℤ}
 use lib.ListN.{length}
 use borrow.Author.Tests.{eq-eqb, ne-eqb, lt-leb, le-ltb}
-use Rattle.ends.specs.declared.EndKind.the-variants.{Closed}
 use Rattle.sheet.proofs.Laws.{accepted-read}
 use Rattle.sheet.specs.Answers.{Told}
 use Rattle.sheet.specs.Fields.{kind, ticks}
 use Rattle.sheet.specs.Reading.{Accepted}
 use Rattle.sheet.specs.declared.Refusal.the-variants.{Shelf, Adrift, Landed, Bend}
 use Rattle.answers.proofs.Guards.{not-refused, not-passed-on, done-changes}
-use Rattle.answers.specs.Answers.{guard}
 use Rattle.layout.specs.Layout.{short}
-use Rattle.runner.specs.Ticks.{isOpen, tickOf}
+use Rattle.runner.specs.Ticks.{isOpen, ticksFlown}
 use Rattle.runner.specs.Steps.{adrift, landed, moved, stepped, onward, repeated}
 use Rattle.runner.specs.Theorems.{Stands}
 use Rattle.runner.specs.declared.Runner.{Runner}
-use Rattle.runner.proofs.Onward.{reached, After, moved-fits, steps-stand}
-use Rattle.runner.proofs.Standing.{Standing, standing, offset-below, leg-below, tick-before, has-tick}
+use Rattle.runner.proofs.Onward.{moved-fits, open-flown, open-steps-stand, closed-steps-on}
+use Rattle.runner.proofs.Standing.{standing, offset-below, leg-below, tick-before, has-tick}
 use Rattle.place.specs.Places.{bendOutside, placed, placeOfRunner}
 use Rattle.station.specs.Claim.{Own, Answered}
 use Rattle.station.proofs.Claim.{claim}
-use Rattle.seat.specs.Serving.{seatsOutside, turnOutside, flown, served, seatAfter}
+use Rattle.seat.specs.Serving.{seatsOutside, flown, served, seatAfter}
 use Rattle.fleet.specs.Round.{seatOf, roundAnswer, fleetAfter}
 use Rattle.flights.specs.Calls.{fleetAt, turnsOf, NoneRefused}
 use Rattle.flights.specs.Theorems.{TurnsMove, ServedNear, FlyingServed}
@@ -87,10 +84,10 @@ module _ (s : List ℕ) (a : Accepted s) (bends : ℕ → List ℤ) (turns : ℕ
   -- the steps of the seat so far, and on an open course the ticks that they come to
   pub record SoFar (n m : ℕ) : Type 0 where
     pub steps : seatOf (at n) j ≡ repeated (onward s) m first
-    pub room : isOpen (kind s) ≡ true → tickOf s first + m ≤ ticks s
+    pub room : isOpen (kind s) ≡ true → ticksFlown s first + m ≤ ticks s
 
-  stands : (n m : ℕ) → SoFar n m → After s (tickOf s first + m) (seatOf (at n) j)
-  stands n m h = subst (After s (tickOf s first + m)) (sym (h .steps)) (steps-stand s a first (standing s first fits) m)
+  open-stands : isOpen (kind s) ≡ true → (n m : ℕ) → SoFar n m → Stands s (min (ticksFlown s first + m) (ticks s)) (seatOf (at n) j)
+  open-stands o n m h = subst (Stands s (min (ticksFlown s first + m) (ticks s))) (sym (h .steps)) (open-steps-stand s a o first (standing s first fits) m)
 
   -- a turn of its own
   own-turn : (n m : ℕ) → SoFar n m → turns n ≡ j → roundAnswer s (bends n) (at n) (turns n) .number ≡ 0 → SoFar (suc n) (suc m)
@@ -99,10 +96,10 @@ module _ (s : List ℕ) (a : Accepted s) (bends : ℕ → List ℤ) (turns : ℕ
       let z′ : roundAnswer s (bends n) (at n) j .number ≡ 0 = rw (← e) z in
       let f = in-flight s (bends n) (at n) j z′ in
       let x = seatOf (at n) j in let st = standing s x (f .fits) in
-      let before : tickOf s x < ticks s = tick-before s x (leg-below s x st) (offset-below s x st (f .flies)) in
+      let before = tick-before s x (leg-below s x st) (offset-below s x st (f .flies)) in
       record {
         steps = ap (λ t. seatOf (fleetAfter s (bends n) (at n) t) j) e ∙ seat-onward s (bends n) (at n) j z′ ∙ ap (onward s) (h .steps);
-        room = λ o. omega (arith, before, h .room o, stands n m h .tick ∙ ap (λ b. reached b (ticks s) (tickOf s first + m)) o);
+        room = λ o. omega (arith, before, h .room o, open-flown s a o x st, open-stands o n m h .flown);
       }
 
   other-turn : (n m : ℕ) → SoFar n m → (j ≡ turns n → ⊥) → SoFar (suc n) m
@@ -111,7 +108,7 @@ module _ (s : List ℕ) (a : Accepted s) (bends : ℕ → List ℤ) (turns : ℕ
 
   so-far : (n : ℕ) → NoneRefused s bends turns fleet j n → SoFar n (turnsOf turns j n)
   unfolding fleetAt turnsOf repeated
-  so-far zero none = record { steps = refl; room = λ o. ⊎-elim (λ q. omega arith) (λ w. omega arith) (has-tick s first (standing s first fits)) }
+  so-far zero none = record { steps = refl; room = λ o. let e = open-flown s a o first (standing s first fits) in ⊎-elim (λ q. omega (arith, e)) (λ w. omega (arith, e)) (has-tick s first (standing s first fits)) }
   so-far (suc n) none =
       let h = so-far n (λ i q e. none i (omega arith) e) in
       same-or-other (SoFar (suc n) (turnsOf turns j (suc n))) j (turns n)
@@ -121,10 +118,10 @@ module _ (s : List ℕ) (a : Accepted s) (bends : ℕ → List ℤ) (turns : ℕ
 pub turns-move : TurnsMove
 turns-move s a bends turns fleet j fits n none =
     let m = turnsOf turns j n in let r = seatOf fleet j in
-    let h = so-far s a bends turns fleet j fits n none in let st = stands s a bends turns fleet j fits n m h in (
+    let h = so-far s a bends turns fleet j fits n none in (
       h .steps,
-      λ o. record { fits = st .fits; tick = st .tick ∙ ap (λ b. reached b (ticks s) (tickOf s r + m)) o ∙ omega (arith, h .room o) },
-      λ e. record { fits = st .fits; tick = st .tick ∙ ap (λ k. reached (isOpen k) (ticks s) (tickOf s r + m)) e },
+      λ o. let st = open-stands s a bends turns fleet j fits o n m h in record { fits = st .fits; flown = omega (arith, st .flown, h .room o) },
+      λ e few. h .steps ∙ closed-steps-on s a e r fits few m,
     )
 
 -- ---- Q7

@@ -8,14 +8,14 @@ use Rattle.spline.specs.Spline.{next, prev, stepAfter, stepBefore, innerRow, fr
 use Rattle.spline.specs.Position.{numerator, position}
 use Rattle.layout.specs.Course.{course}
 use Rattle.layout.specs.Layout.{allBends, layOut, laidOut}
-use Rattle.runner.specs.Steps.{adrift, moved}
+use Rattle.runner.specs.Steps.{offLegs, adrift, moved}
 use Rattle.place.specs.Places.{bendOutside, placeOn}
 use Rattle.seat.specs.Serving.{flown, served, turnAfter, seatAfter}
 use Rattle.fleet.specs.Round.{fleetAfter}
 use Rattle.flights.specs.Worked.{RoundsTried}
 
 pub rounds-tried : RoundsTried
-unfolding rounded be16 be32 signed32 anyBelow sumBelow readBy target renewed turn sweep pass passes next prev stepAfter stepBefore innerRow freeRow along rowOf rowsBy numerator position course allBends layOut laidOut adrift moved bendOutside placeOn flown served turnAfter seatAfter fleetAfter
+unfolding rounded be16 be32 signed32 anyBelow sumBelow readBy target renewed turn sweep pass passes next prev stepAfter stepBefore innerRow freeRow along rowOf rowsBy numerator position course allBends layOut laidOut offLegs adrift moved bendOutside placeOn flown served turnAfter seatAfter fleetAfter
 rounds-tried = record {
   on-leg = refl;
   on-leg-turn = refl;
@@ -34,6 +34,8 @@ rounds-tried = record {
   landed-first = refl;
   round = refl;
   round-fleet = refl;
+  lap = refl;
+  lap-fleet = refl;
   turn = refl;
   no-seats = refl;
   most-seats = refl;

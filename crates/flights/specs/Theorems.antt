@@ -2,14 +2,14 @@
 use mathlib.Core.Path.{_≡_}
 use mathlib.Core.Bool.{true, false}
 use mathlib.Core.List.{List}
-use Prim.Native.Nat.{ℕ, _+_, _%_, _≤_, _<_}
+use Prim.Native.Nat.{ℕ, _+_, _≤_, _<_}
 use lib.IntN.{ℤ}
 use lib.ListN.{length}
 use Rattle.ends.specs.declared.EndKind.the-variants.{Closed}
-use Rattle.sheet.specs.Fields.{kind, ticks}
+use Rattle.sheet.specs.Fields.{kind}
 use Rattle.sheet.specs.Reading.{Accepted}
-use Rattle.runner.specs.Ticks.{isOpen, tickOf}
-use Rattle.runner.specs.Steps.{adrift, landed, onward, repeated}
+use Rattle.runner.specs.Ticks.{isOpen, ticksFlown}
+use Rattle.runner.specs.Steps.{adrift, mostLaps, landed, onward, repeated, flownTo}
 use Rattle.runner.specs.Theorems.{Stands}
 use Rattle.runner.specs.declared.Runner.{Runner}
 use Rattle.station.specs.Claim.{Own, Answered}
@@ -35,14 +35,14 @@ SeatsApart = (sheets : ℕ → List ℕ) (bends : ℕ → List ℤ) (turns : ℕ
     × (turns n ≡ j → roundAnswer (sheets n) (bends n) f′ (turns n) ≡ roundAnswer (sheets n) (bends n) g′ (turns n))
     × (turnGiven (sheets n) (bends n) f′ (turns n) ≡ turnGiven (sheets n) (bends n) g′ (turns n))
 
--- Q6: where none of its turns is refused, a seat is as many steps on as it had turns, and as many ticks, modulo P on a closed course
+-- Q6: where none of its turns is refused, a seat is as many steps on as it had turns, and has flown as many ticks more; on a closed course as far as a record holds laps
 abbrev pub TurnsMove : Type 0
 TurnsMove = (s : List ℕ) → Accepted s → (bends : ℕ → List ℤ) (turns : ℕ → ℕ) (fleet : List Runner) (j : ℕ) → adrift s (seatOf fleet j) ≡ false
     → (n : ℕ) → NoneRefused s bends turns fleet j n
     → let r = seatOf fleet j in let m = turnsOf turns j n in let x = seatOf (fleetAt (λ _. s) bends turns fleet n) j in
     (x ≡ repeated (onward s) m r)
-    × (isOpen (kind s) ≡ true → Stands s (tickOf s r + m) x)
-    × (kind s ≡ Closed → Stands s ((tickOf s r + m) % ticks s) x)
+    × (isOpen (kind s) ≡ true → Stands s (ticksFlown s r + m) x)
+    × (kind s ≡ Closed → r .laps ≤ mostLaps → x ≡ flownTo s (ticksFlown s r + m))
 
 -- Q7: with own bend numbers a round that is not refused answers the place where it leaves its seat, and that is near (C3) every exact spline
 abbrev pub ServedNear : Type 0

@@ -7,7 +7,7 @@ use lib.ListN.{replicate}
 use Rattle.ends.specs.declared.EndKind.the-variants.{Free, Closed}
 use Rattle.sheet.specs.Answers.{Told, refused}
 use Rattle.sheet.specs.declared.Refusal.the-variants.{Torn, Shelf, Adrift, Bend, Landed, Seats, Turn}
-use Rattle.runner.specs.Ticks.{runner}
+use Rattle.runner.specs.Ticks.{runner, atLap}
 use Rattle.runner.specs.declared.Runner.{Runner}
 use Rattle.courses.specs.Sheets.{sheet, northward}
 use Rattle.courses.specs.Starred.{laid}
@@ -50,9 +50,12 @@ pub record RoundsTried : Type 0 where
   pub bend-fleet : fleetAfter courseA bent (runner 0 1 ∷ []) 0 ≡ runner 0 1 ∷ []
   pub not-yet : roundAnswer courseA bent (runner 0 0 ∷ []) 0 ≡ placeAt (pos 6) (pos 10) (pos 21)
   pub landed-first : roundAnswer courseA bent (runner 1 2 ∷ []) 0 ≡ refused Landed
-  -- round the closed course
+  -- round the closed course, a lap more
   pub round : roundAnswer course7 (laid course7) (runner 3 1 ∷ runner 0 0 ∷ []) 0 ≡ placeAt (pos 0) (pos 0) (pos 0)
-  pub round-fleet : fleetAfter course7 (laid course7) (runner 3 1 ∷ runner 0 0 ∷ []) 0 ≡ runner 0 0 ∷ runner 0 0 ∷ []
+  pub round-fleet : fleetAfter course7 (laid course7) (runner 3 1 ∷ runner 0 0 ∷ []) 0 ≡ atLap 1 (runner 0 0) ∷ runner 0 0 ∷ []
+  -- a lap on an open one is adrift
+  pub lap : roundAnswer courseA (laid courseA) (atLap 1 (runner 0 0) ∷ []) 0 ≡ refused Adrift
+  pub lap-fleet : fleetAfter courseA (laid courseA) (atLap 1 (runner 0 0) ∷ []) 0 ≡ atLap 1 (runner 0 0) ∷ []
   -- no seat is looked at: 20; 19 before 20, of none and of 33; 9 before 19; 1 before 9; and no turn is given
   pub turn : roundAnswer courseA (laid courseA) four 4 ≡ refused Turn
   pub no-seats : roundAnswer courseA (laid courseA) [] 0 ≡ refused Seats

@@ -28,7 +28,8 @@ use Rattle.joined.proofs.Fields.{j, n-counts, m-counts, all-points, fir
 own-met : (s : List ℕ) → Accepted s → kind s ≡ Free → (list : List ℤ) → Own s list → (i t : ℕ) → i < points s → t ≡ tickOfWaypoint s i → placeAtTick s list t ≡ met s i
 own-met s a free list own i t h e =
     let last : i ≤ legs s = omega (arith, ap (λ k. legCount k (points s)) free) in
-    let stands = tick-stands s a t .0 (ap isOpen free) (omega (arith, sum-monotone (leg s) i (legs s) last)) .fits in
+    let before = le-ltb (ticks s) t (omega (arith, sum-monotone (leg s) i (legs s) last)) in
+    let stands = tick-stands s a t (rw (ap isOpen free, before)) .fits in
     waypoint-met-at-tick s a list (le-ltb (length list) (3 * points s) (own-long s list own)) i h t
     (ap (λ k. reduced k (ticks s) t) free ∙ e)
     (bends-inside s a list own (spotAt s t .leg) (leg-below s (spotAt s t) (standing s (spotAt s t) stands)))

@@ -23,8 +23,8 @@ use Rattle.spline.specs.Position.{position}
 use Rattle.spline.proofs.Waypoints.{next-lt}
 use Rattle.layout.specs.Course.{course}
 use Rattle.layout.proofs.Near.{course-in-bounds}
-use Rattle.runner.specs.Ticks.{runner, isOpen, reduced, walk, spotAt}
-use Rattle.runner.specs.Steps.{adrift}
+use Rattle.runner.specs.Ticks.{runner, atLap, isOpen, reduced, lapsIn, walk, spotAt}
+use Rattle.runner.specs.Steps.{offLegs, adrift}
 use Rattle.runner.specs.declared.Runner.{Runner}
 use Rattle.runner.proofs.Standing.{leg-below, standing}
 use Rattle.place.specs.Places.{bendOf, endOf, placed, placeOn, placeAtTick, placeOfRunner}
@@ -59,14 +59,15 @@ module _ (s t : List ℕ) (axis : ℕ) (k : axis < 3) (m : MirrorSheet s t axis)
   same-spot : (tick : ℕ) → spotAt t tick ≡ spotAt s tick
   unfolding spotAt
   same-spot tick =
-      (λ j. walk (leg t) (same-legs j - 1) 0 (reduced (m .same-kind j) (same-ticks j) tick))
-      ∙ walk-same (leg t) (leg s) (legs s - 1) 0 (reduced (kind s) (ticks s) tick) (λ j h. m .same-leg j (omega arith))
+      (λ j. atLap (lapsIn (m .same-kind j) (same-ticks j) tick) (walk (leg t) (same-legs j - 1) 0 (reduced (m .same-kind j) (same-ticks j) tick)))
+      ∙ ap (atLap (lapsIn (kind s) (ticks s) tick)) (walk-same (leg t) (leg s) (legs s - 1) 0 (reduced (kind s) (ticks s) tick) (λ j h. m .same-leg j (omega arith)))
 
   same-adrift : (r : Runner) → r .leg < legs s → adrift t r ≡ adrift s r
-  unfolding adrift
+  unfolding adrift offLegs
   same-adrift r l =
       let e = m .same-leg (r .leg) l in
       λ j. not (ltb (r .leg) (same-legs j)) || not (ltb (r .offset) (e j) || (isOpen (m .same-kind j) && eqb (suc (r .leg)) (same-legs j) && eqb (r .offset) (e j)))
+      || (isOpen (m .same-kind j) && ltb 0 (r .laps))
 
   same-end : (i : ℕ) → endOf t i ≡ endOf s i
   unfolding course next
@@ -122,7 +123,7 @@ module _ (s t : List ℕ) (axis : ℕ) (k : axis < 3) (m : MirrorSheet s t axis)
     by-tick : (tick : ℕ) → Answers (kind s) (ticks s) tick → PlaceNegated axis (placeAtTick s zs tick) (placeAtTick t ys tick)
     by-tick tick h =
         let r = spotAt s tick in
-        place-negated r (leg-below s r (standing s r (answerable s accepted (kind s) refl tick h .1))) (placeAtTick s zs tick) (placeAtTick t ys tick)
+        place-negated r (leg-below s r (standing s r (answerable s accepted tick h .1))) (placeAtTick s zs tick) (placeAtTick t ys tick)
         (claim s accepted .by-tick zs own tick h .place)
         (claim t image-accepted .by-tick ys image-own tick (same-answers tick h) .place ∙ ap (placed t ys) (same-spot tick))
 

@@ -22,12 +22,12 @@ use Rattle.place.specs.Places.{endOf, bendOf, beyond, bendOutside}
 use Rattle.place.specs.Asked.{OnLeg, Fitting}
 
 standing-leg : {s : List ℕ} {r : Runner} → Standing s r → r .leg < legs s
-standing-leg (on-leg p q) = p
-standing-leg (at-end o e q) = omega arith
+standing-leg (on-leg p q w) = p
+standing-leg (at-end o e q z) = omega arith
 
 standing-offset : {s : List ℕ} {r : Runner} → Standing s r → r .offset ≤ leg s (r .leg)
-standing-offset (on-leg p q) = omega arith
-standing-offset (at-end o e q) = omega arith
+standing-offset (on-leg p q w) = omega arith
+standing-offset (at-end o e q z) = omega arith
 
 module _ {s : List ℕ} {list : List ℤ} {n l : ℕ} {r : Runner} (f : Fitting s list n l r) where
   abbrev start : ℕ

@@ -6,7 +6,7 @@ use mathlib.Core.List.{List, [], _∷_}
 use mathlib.Core.Logic.{_⊎_, inl, inr, ⊎-elim}
 use Prim.Native.Nat.{ℕ, suc, _-_, _≤_, _<_}
 use native.Mathlib.Omega.{arith}
-use borrow.Author.Tests.{le-ltb, ltb-false, ne-eqb}
+use borrow.Author.Tests.{le-ltb, ne-eqb}
 use lib.Dec.{ltb}
 use lib.IntN.{ℤ}
 use lib.ListN.{length}
@@ -21,11 +21,11 @@ use Rattle.sheet.proofs.Laws.{read-or-refused, accepted-read, accepted-bounds}
 use Rattle.spline.specs.Spline.{next}
 use Rattle.layout.specs.Course.{course}
 use Rattle.layout.specs.Layout.{short}
-use Rattle.runner.specs.Ticks.{runner, isOpen, reduced, past, spotAt, tickOf}
+use Rattle.runner.specs.Ticks.{runner, atLap, isOpen, reduced, spotAt, tickOf}
 use Rattle.runner.specs.Steps.{adrift}
 use Rattle.runner.specs.declared.Runner.{Runner}
-use Rattle.runner.proofs.Standing.{Standing, on-leg, at-end, not-adrift, tick-at-end, has-tick, spot-of, spot-reduced, has-legs, tick-stands}
-use Rattle.place.specs.Places.{endOf, bendOutside, placed, placeAtTick, placeOfRunner}
+use Rattle.runner.proofs.Standing.{Standing, on-leg, at-end, standing, not-adrift, leg-below, tick-at-end, has-tick, spot-of-tick, has-legs, tick-stands}
+use Rattle.place.specs.Places.{endOf, bendOutside, placeOn, placed, placeAtTick, placeOfRunner}
 use Rattle.place.specs.Theorems.{LegEndsMet, met, tickOfWaypoint, WaypointMetAtTick, WaypointMetByRunner, TickIsRunner}
 use Rattle.place.proofs.Ends.{start-met, end-met}
 
@@ -53,54 +53,57 @@ last-end s a o =
     simp (ne-eqb (suc (legs s - 1)) (points s) (λ q. omega arith)) (omega arith)
 
 -- ---- the place by tick is the place by the tick's runner: that runner is not adrift
--- a tick that is not past is one of an open course's, or a closed course's
-not-past-ticks : (k : EndKind) (p t : ℕ) → (isOpen k && ltb p t) ≡ false → ((isOpen k ≡ true) × (t ≤ p)) ⊎ (k ≡ Closed)
-not-past-ticks Free p t h = inl (refl, ltb-false p t h)
-not-past-ticks Held p t h = inl (refl, ltb-false p t h)
-not-past-ticks Closed p t h = inr refl
-
-pub spot-fits : (s : List ℕ) → Accepted s → (t : ℕ) → past s t ≡ false → adrift s (spotAt s t) ≡ false
-spot-fits s a t h = ⊎-elim (λ o. tick-stands s a t .0 (o .0) (o .1) .fits) (λ k. tick-stands s a t .1 k .fits) (not-past-ticks (kind s) (ticks s) t h)
-
 pub tick-is-runner : TickIsRunner
 unfolding placeAtTick placeOfRunner
 tick-is-runner s list t h =
-    ⊎-elim (λ w. simp (w .1, h, spot-fits s (w .0) t h)) (λ w. let e = w .1 .answer in simp e) (read-or-refused s)
+    ⊎-elim (λ w. simp (w .1, h, tick-stands s (w .0) t h .fits)) (λ w. let e = w .1 .answer in simp e) (read-or-refused s)
 
 -- ---- an accepted sheet whose list is long enough
 module _ (s : List ℕ) (a : Accepted s) (list : List ℤ) (room : short s (length list) ≡ false) where
   -- a runner to which neither 11 nor 12 applies gets its place
-  answered : (r : Runner) → Standing s r → bendOutside s list (r .leg) ≡ false → placeOfRunner s list r ≡ placed s list r
+  answered : (r : Runner) → adrift s r ≡ false → bendOutside s list (r .leg) ≡ false → placeOfRunner s list r ≡ placed s list r
   unfolding placeOfRunner
-  answered r stands bends = simp (accepted-read s a, room, not-adrift s r stands, bends)
+  answered r fits bends = simp (accepted-read s a, room, fits, bends)
 
-  -- every leg's start, and the end of an open course
-  at-start : (i : ℕ) → i < legs s → bendOutside s list i ≡ false → placeOfRunner s list (runner i 0) ≡ met s i
-  at-start i fits bends =
-      answered (runner i 0) (on-leg fits (accepted-bounds s a .leg-low i fits)) bends
-      ∙ (λ j. record { number = 0; values = start-met s a list i fits 0 j ∷ start-met s a list i fits 1 j ∷ start-met s a list i fits 2 j ∷ [] })
+  -- every leg's start, and the end of an open course; places know no laps
+  at-start : (i l : ℕ) → adrift s (atLap l (runner i 0)) ≡ false → bendOutside s list i ≡ false → placeOfRunner s list (atLap l (runner i 0)) ≡ met s i
+  unfolding placeOn
+  at-start i l fits bends =
+      let r = atLap l (runner i 0) in let on = leg-below s r (standing s r fits) in
+      answered r fits bends
+      ∙ (λ j. record { number = 0; values = start-met s a list i on 0 j ∷ start-met s a list i on 1 j ∷ start-met s a list i on 2 j ∷ [] })
 
-  at-last : isOpen (kind s) ≡ true → bendOutside s list (legs s - 1) ≡ false
-      → placeOfRunner s list (runner (legs s - 1) (leg s (legs s - 1))) ≡ met s (points s - 1)
-  at-last o bends =
-      let some = has-legs s a in let i = legs s - 1 in let fits : i < legs s = omega arith in
-      answered (runner i (leg s i)) (at-end o (omega arith) refl) bends
-      ∙ (λ j. record { number = 0; values = end-met s a list i fits 0 j ∷ end-met s a list i fits 1 j ∷ end-met s a list i fits 2 j ∷ [] })
+  abbrev last-runner : Runner
+  last-runner = runner (legs s - 1) (leg s (legs s - 1))
+
+  at-last : (l : ℕ) → isOpen (kind s) ≡ true → adrift s (atLap l last-runner) ≡ false → bendOutside s list (legs s - 1) ≡ false
+      → placeOfRunner s list (atLap l last-runner) ≡ met s (points s - 1)
+  unfolding placeOn
+  at-last l o fits bends =
+      let r = atLap l last-runner in let i = legs s - 1 in let on = leg-below s r (standing s r fits) in
+      answered r fits bends
+      ∙ (λ j. record { number = 0; values = end-met s a list i on 0 j ∷ end-met s a list i on 1 j ∷ end-met s a list i on 2 j ∷ [] })
       ∙ ap (met s) (last-end s a o)
 
-  -- a waypoint's tick names its runner
-  named : (t : ℕ) (r : Runner) → Standing s r → reduced (kind s) (ticks s) t ≡ tickOf s r → spotAt s t ≡ r
-  named t r stands e = sym (spot-reduced s t) ∙ ap (spotAt s) e ∙ sym (spot-of s r stands)
+  last-standing : isOpen (kind s) ≡ true → Standing s last-runner
+  last-standing o = at-end o (omega (arith, has-legs s a)) refl refl
+
+  -- a waypoint's tick names its runner, at the laps of the tick
+  named : (t : ℕ) (r : Runner) → Standing s r → reduced (kind s) (ticks s) t ≡ tickOf s r → spotAt s t ≡ atLap (spotAt s t .laps) r
+  named t r stands e = ap (atLap (spotAt s t .laps)) (spot-of-tick s t r stands e)
 
   before-last : (r : Runner) → Standing s r → tickOf s r ≤ ticks s
   before-last r stands = ⊎-elim (λ h. omega arith) (λ h. omega arith) (has-tick s r stands)
 
   met-at : (t i : ℕ) (r : Runner) → Standing s r → reduced (kind s) (ticks s) t ≡ tickOf s r
-      → (bendOutside s list (r .leg) ≡ false → placeOfRunner s list r ≡ met s i) → bendOutside s list (spotAt s t .leg) ≡ false → placeAtTick s list t ≡ met s i
+      → ((l : ℕ) → adrift s (atLap l r) ≡ false → bendOutside s list (r .leg) ≡ false → placeOfRunner s list (atLap l r) ≡ met s i)
+      → bendOutside s list (spotAt s t .leg) ≡ false → placeAtTick s list t ≡ met s i
   met-at t i r stands q place bends =
       let spot = named t r stands q in
-      tick-is-runner s list t (not-past (kind s) (ticks s) t (omega (arith, q, before-last r stands)))
-      ∙ ap (placeOfRunner s list) spot ∙ place (sym (ap (λ x. bendOutside s list (x .leg)) spot) ∙ bends)
+      let free = not-past (kind s) (ticks s) t (omega (arith, q, before-last r stands)) in
+      tick-is-runner s list t free
+      ∙ ap (placeOfRunner s list) spot
+      ∙ place (spotAt s t .laps) (sym (ap (adrift s) spot) ∙ tick-stands s a t free .fits) (sym (ap (λ x. bendOutside s list (x .leg)) spot) ∙ bends)
 
   at-tick : (i : ℕ) → i < points s → (t : ℕ) → reduced (kind s) (ticks s) t ≡ tickOfWaypoint s i
       → bendOutside s list (spotAt s t .leg) ≡ false → placeAtTick s list t ≡ met s i
@@ -108,15 +111,15 @@ module _ (s : List ℕ) (a : Accepted s) (list : List ℤ) (room : short s (leng
   at-tick i fits t q = ⊎-elim (start) (last) (start-or-last (kind s) (points s) i (omega arith) fits)
     where
       start : i < legs s → bendOutside s list (spotAt s t .leg) ≡ false → placeAtTick s list t ≡ met s i
-      start h = met-at t i (runner i 0) (on-leg h (accepted-bounds s a .leg-low i h)) (q ∙ omega arith) (at-start i h)
+      start h = met-at t i (runner i 0) (on-leg h (accepted-bounds s a .leg-low i h) (λ _. refl)) (q ∙ omega arith) (at-start i)
 
       last : (isOpen (kind s) ≡ true) × (i ≡ points s - 1) → bendOutside s list (spotAt s t .leg) ≡ false → placeAtTick s list t ≡ met s i
       last w =
           let some = has-legs s a in
           let e = open-legs (kind s) (points s) (w .0) in
-          let r = runner (legs s - 1) (leg s (legs s - 1)) in
           let full : suc (legs s - 1) ≡ legs s = omega arith in
-          met-at t i r (at-end (w .0) full refl) (q ∙ ap (sumBelow (leg s)) (w .1 ∙ sym e) ∙ sym (tick-at-end s r full refl)) (λ bends. at-last (w .0) bends ∙ ap (met s) (sym (w .1)))
+          met-at t i last-runner (last-standing (w .0)) (q ∙ ap (sumBelow (leg s)) (w .1 ∙ sym e) ∙ sym (tick-at-end s last-runner full refl))
+          (λ l fit bends. at-last l (w .0) fit bends ∙ ap (met s) (sym (w .1)))
 
 pub leg-ends-met : LegEndsMet
 leg-ends-met s a list i fits axis = (start-met s a list i fits axis, end-met s a list i fits axis)
@@ -125,4 +128,4 @@ pub waypoint-met-at-tick : WaypointMetAtTick
 waypoint-met-at-tick s a list room = at-tick s a list room
 
 pub waypoint-met-by-runner : WaypointMetByRunner
-waypoint-met-by-runner s a list room = (at-start s a list room, at-last s a list room)
+waypoint-met-by-runner s a list room = (at-start s a list room, λ o. at-last s a list room 0 o (not-adrift s (last-runner s a list room) (last-standing s a list room o)))

@@ -10,7 +10,8 @@ use Rattle.sheet.specs.Bytes.{sumBelow}
 use Rattle.sheet.specs.Fields.{kind, points, legs, leg, ticks, waypoint}
 use Rattle.sheet.specs.Reading.{Accepted}
 use Rattle.layout.specs.Layout.{short}
-use Rattle.runner.specs.Ticks.{runner, isOpen, reduced, past, spotAt}
+use Rattle.runner.specs.Ticks.{runner, atLap, isOpen, reduced, past, spotAt}
+use Rattle.runner.specs.Steps.{adrift}
 use Rattle.place.specs.Places.{endOf, bendOutside, placeOn, placeAtTick, placeOfRunner}
 
 -- P5, of a leg: at offset 0 its first waypoint, at full offset its second, on every axis and whatever the bend numbers
@@ -32,10 +33,10 @@ WaypointMetAtTick = (s : List ℕ) → Accepted s → (list : List ℤ) → shor
     → (i : ℕ) → i < points s → (t : ℕ) → reduced (kind s) (ticks s) t ≡ tickOfWaypoint s i
     → bendOutside s list (spotAt s t .leg) ≡ false → placeAtTick s list t ≡ met s i
 
--- P5, by runner: at a leg's start, and at the end of an open course
+-- P5, by runner: at a leg's start, whatever laps it has that the course takes, and at the end of an open course
 abbrev pub WaypointMetByRunner : Type 0
 WaypointMetByRunner = (s : List ℕ) → Accepted s → (list : List ℤ) → short s (length list) ≡ false
-    → ((i : ℕ) → i < legs s → bendOutside s list i ≡ false → placeOfRunner s list (runner i 0) ≡ met s i)
+    → ((i l : ℕ) → adrift s (atLap l (runner i 0)) ≡ false → bendOutside s list i ≡ false → placeOfRunner s list (atLap l (runner i 0)) ≡ met s i)
     × (isOpen (kind s) ≡ true → bendOutside s list (legs s - 1) ≡ false
     → placeOfRunner s list (runner (legs s - 1) (leg s (legs s - 1))) ≡ met s (points s - 1))
 

@@ -42,13 +42,15 @@ fn show_tick(s: &[u8], list: &[i64], tick: u64) {
     show(place_at_tick(s, list, tick));
 }
 
-fn show_runner(s: &[u8], list: &[i64], leg: u64, offset: u64) {
+fn show_runner(s: &[u8], list: &[i64], leg: u64, offset: u64, laps: u64) {
     print(b"runner ");
     io::print_decimal(STDOUT_FILENO, leg);
     print(b" ");
     io::print_decimal(STDOUT_FILENO, offset);
+    print(b" ");
+    io::print_decimal(STDOUT_FILENO, laps);
     print(b": ");
-    show(place_of_runner(s, list, Runner { leg, offset }));
+    show(place_of_runner(s, list, Runner { leg, offset, laps }));
 }
 
 // The first ticks of a course, with its own bend numbers: 12 places are enough for every course here.
@@ -108,26 +110,30 @@ fn run_closed() {
     show_course(b"closed", s, 17);
     let list = [0, -49152, 0, 49152, 0, 0, 0, 0, 0, 0, 0, 0];
     show_tick(s, &list, LAST);
-    show_runner(s, &list, 3, 1);
-    show_runner(s, &list, 3, 2);
-    show_runner(s, &list, 4, 0);
-    show_runner(s, &list, LAST, LAST);
+    show_runner(s, &list, 3, 1, 0);
+    show_runner(s, &list, 3, 1, 5);
+    show_runner(s, &list, 3, 1, LAST);
+    show_runner(s, &list, 3, 2, 0);
+    show_runner(s, &list, 4, 0, 0);
+    show_runner(s, &list, LAST, LAST, 0);
 }
 
 // Runners on A: at every leg's start, on the way, at the end of the course, and adrift.
 fn run_runners(s: &[u8]) {
     print(b"runners\n");
     let list = [0, -65536, 0, 0, 0, 0, 0, 0, 0];
-    show_runner(s, &list, 0, 0);
-    show_runner(s, &list, 0, 1);
-    show_runner(s, &list, 1, 0);
-    show_runner(s, &list, 1, 1);
-    show_runner(s, &list, 1, 2);
-    show_runner(s, &list, 0, 2);
-    show_runner(s, &list, 1, 3);
-    show_runner(s, &list, 2, 0);
-    show_runner(s, &list, 0, LAST);
-    show_runner(s, &list, LAST, 0);
+    show_runner(s, &list, 0, 0, 0);
+    show_runner(s, &list, 0, 1, 0);
+    show_runner(s, &list, 1, 0, 0);
+    show_runner(s, &list, 1, 1, 0);
+    show_runner(s, &list, 1, 2, 0);
+    show_runner(s, &list, 0, 2, 0);
+    show_runner(s, &list, 1, 3, 0);
+    show_runner(s, &list, 2, 0, 0);
+    show_runner(s, &list, 0, LAST, 0);
+    show_runner(s, &list, LAST, 0, 0);
+    show_runner(s, &list, 0, 0, 1);
+    show_runner(s, &list, 1, 2, LAST);
 }
 
 // 12's limits on A: the limits themselves are allowed, one beyond is refused at the legs that end there and nowhere else, also where the offset is 0.
@@ -146,9 +152,9 @@ fn run_limits(s: &[u8]) {
     show_tick(s, &list, 1);
     show_tick(s, &list, 2);
     show_tick(s, &list, 3);
-    show_runner(s, &list, 0, 0);
-    show_runner(s, &list, 0, 1);
-    show_runner(s, &list, 1, 1);
+    show_runner(s, &list, 0, 0, 0);
+    show_runner(s, &list, 0, 1, 0);
+    show_runner(s, &list, 1, 1, 0);
     list[0] = -LIMIT - 1;
     show_tick(s, &list, 1);
     show_tick(s, &list, 3);
@@ -159,9 +165,9 @@ fn run_limits(s: &[u8]) {
     show_tick(s, &list, 2);
     show_tick(s, &list, 3);
     show_tick(s, &list, 4);
-    show_runner(s, &list, 0, 1);
-    show_runner(s, &list, 1, 0);
-    show_runner(s, &list, 1, 2);
+    show_runner(s, &list, 0, 1, 0);
+    show_runner(s, &list, 1, 0, 0);
+    show_runner(s, &list, 1, 2, 0);
     list[8] = 0;
     list[4] = LIMIT + 1;
     show_tick(s, &list, 1);
@@ -194,18 +200,18 @@ fn run_refused(s: &[u8]) {
     show_tick(s, &list, LAST);
     show_tick(s, &list[..8], 1);
     show_tick(s, &list[..8], 5);
-    show_runner(s, &list, 1, 2);
-    show_runner(s, &list, 2, 0);
-    show_runner(s, &list[..8], 2, 0);
-    show_runner(s, &list[..8], 0, 0);
+    show_runner(s, &list, 1, 2, 0);
+    show_runner(s, &list, 2, 0, 0);
+    show_runner(s, &list[..8], 2, 0, 0);
+    show_runner(s, &list[..8], 0, 0, 0);
     show_tick(b"torn sheet", &list[..8], 5);
-    show_runner(b"", &list[..8], 2, 0);
+    show_runner(b"", &list[..8], 2, 0, 0);
     let closed =
         b"\x00\x00\x00\x24\x01\x02\x00\x02\x00\x02\x00\x02\x00\x00\x00\x00\x00\x00\x00\x00\x00\x00\x00\x00\x00\x00\x00\x06\x00\x00\x00\x00\x00\x00\x00\x00";
     show_tick(closed, &list, LAST);
     let long =
         b"\x00\x00\x00\x30\x01\x00\x00\x03\x00\x02\x01\x01\x00\x00\x00\x00\x00\x00\x00\x0a\x00\x00\x00\x14\x00\x00\x00\x08\x00\x00\x00\x0a\x00\x00\x00\x16\x00\x00\x00\x00\x00\x00\x00\x0a\x00\x00\x00\x18";
-    show_runner(long, &list[..8], 9, 9);
+    show_runner(long, &list[..8], 9, 9, 0);
 }
 
 fn main() {

@@ -16,7 +16,7 @@ use Rattle.sheet.specs.declared.Reading.the-variants as R
 use Rattle.sheet.specs.declared.Refusal.{Refusal}
 use Rattle.sheet.specs.declared.Refusal.the-variants.{Adrift}
 use Rattle.sheet.proofs.Laws.{accepted-read, read-accepted}
-use Rattle.runner.specs.Ticks.{runner, found, toldRunner, left}
+use Rattle.runner.specs.Ticks.{runner, atLap, found, toldRunner, left}
 use Rattle.runner.specs.Steps.{adrift}
 use Rattle.runner.specs.declared.Runner.{Runner}
 use Rattle.runner.specs.declared.RunnerAnswer.{RunnerAnswer}
@@ -50,7 +50,8 @@ found-injective : (a b : Runner) → found a ≡ found b → a ≡ b
 found-injective a b e =
     let x : a .leg ≡ b .leg = ap (λ (t : Told). natAbs (getD (t .values) 0 (pos 0))) e in
     let y : a .offset ≡ b .offset = ap (λ (t : Told). natAbs (getD (t .values) 1 (pos 0))) e in
-    λ i. runner (x i) (y i)
+    let z : a .laps ≡ b .laps = ap (λ (t : Told). natAbs (getD (t .values) 2 (pos 0))) e in
+    λ i. atLap (z i) (runner (x i) (y i))
 
 -- an answer by value that is told as the chain leaves the record that the chain's number names
 pub kept-left : (s : List ℕ) (r : Runner) (b : Bool) (q : Refusal) (m : Runner) (answer : RunnerAnswer) → toldRunner answer ≡ Chain s r b q m

@@ -1,4 +1,4 @@
--- The walk along the legs, over a leg function alone: what it finds, and that nothing else fits. Both go by the count of legs that are left:
+-- The walk along the legs, over a leg function alone: what it finds, and that nothing else fits, laps aside. Both go by the count of legs that are left:
 -- a tick below the leg's length stays on it, any other goes on to the next leg with that length taken off.
 use mathlib.Core.Path.{_≡_, refl, ap}
 use mathlib.Core.Bool.{cond}
@@ -9,7 +9,7 @@ use lib.Dec.{ltb, ltb→lt, nltb→le}
 use Rattle.integers.proofs.Order.{by-test, le-or-lt}
 use Rattle.sheet.proofs.Below.{sum-step, sum-monotone}
 use Rattle.sheet.specs.Bytes.{sumBelow}
-use Rattle.runner.specs.Ticks.{runner, walk}
+use Rattle.runner.specs.Ticks.{runner, atLap, walk}
 use Rattle.runner.specs.declared.Runner.{Runner}
 
 -- a choice by the order of two numbers, as the tests of walk and step make it
@@ -43,8 +43,8 @@ walk-finds h (suc k) i t =
     (λ q. from-next h k i t _ q (walk-finds h k (suc i) (t - h i)))
 
 -- on the leg i itself the offset is the tick
-same-leg : (h : ℕ → ℕ) (k i t : ℕ) (r : Runner) → Found h k i t r → r .leg ≡ i → r ≡ runner i t
-same-leg h k i t r f p = λ j. record { leg = p j; offset = q j }
+same-leg : (h : ℕ → ℕ) (k i t : ℕ) (r : Runner) → Found h k i t r → r .leg ≡ i → atLap 0 r ≡ runner i t
+same-leg h k i t r f p = λ j. runner (p j) (q j)
   where
     q : r .offset ≡ t
     q = omega (arith, ap (sumBelow h) p)
@@ -68,11 +68,11 @@ to-next h k i t r q f =
     not-here : r .leg ≡ i → ⊥
     not-here p = ⊎-elim (λ o. omega (arith, ap (sumBelow h) p, ap h p)) (λ e. omega arith) (f .within)
 
-pub walk-only : (h : ℕ → ℕ) (k i t : ℕ) (r : Runner) → Found h k i t r → r ≡ walk h k i t
+pub walk-only : (h : ℕ → ℕ) (k i t : ℕ) (r : Runner) → Found h k i t r → atLap 0 r ≡ walk h k i t
 unfolding walk
 walk-only h zero i t r f = same-leg h zero i t r f (omega arith)
 walk-only h (suc k) i t r f =
-    by-order t (h i) (runner i t) (walk h k (suc i) (t - h i)) (λ w. r ≡ w)
+    by-order t (h i) (runner i t) (walk h k (suc i) (t - h i)) (λ w. atLap 0 r ≡ w)
     (λ q. same-leg h (suc k) i t r f (stays h (suc k) i t r q f))
     (λ q. walk-only h k (suc i) (t - h i) r (to-next h k i t r q f))
 

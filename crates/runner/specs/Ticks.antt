@@ -1,8 +1,8 @@
--- The leg and offset of a tick (P3, P4), and the runner from a tick (N10, A6).
+-- The leg, offset and laps of a tick (P3, P4, M10), the ticks that a runner has flown (M11), and the runner from a tick (N10, A6).
 use mathlib.Core.Path.{_≡_}
 use mathlib.Core.Bool.{Bool, true, false, cond, _&&_}
 use mathlib.Core.List.{List, [], _∷_}
-use Prim.Native.Nat.{ℕ, zero, suc, _+_, _-_, _%_}
+use Prim.Native.Nat.{ℕ, zero, suc, _+_, _-_, _*_, _/_, _%_}
 use lib.Dec.{ltb}
 use lib.IntN.{pos}
 use Rattle.ends.specs.declared.EndKind.{EndKind}
@@ -23,13 +23,16 @@ pub record IsRead (s : List ℕ) (k : EndKind) (l : ℕ) : Type 0 where
   pub is-kind : k ≡ kind s
   pub is-legs : l ≡ legs s
 
--- M1: the runner with these two numbers
+-- M1: the runner at a leg and offset with no lap flown; and any runner at another count of laps
 abbrev pub runner : ℕ → ℕ → Runner
-runner i u = record { leg = i; offset = u }
+runner i u = record { leg = i; offset = u; laps = 0 }
 
--- F8: the number and values of each answer; a runner's are leg and offset
+abbrev pub atLap : ℕ → Runner → Runner
+atLap l r = record { leg = r .leg; offset = r .offset; laps = l }
+
+-- F8: the number and values of each answer; a runner's are leg, offset and laps
 abbrev pub found : Runner → Told
-found r = record { number = 0; values = pos (r .leg) ∷ pos (r .offset) ∷ [] }
+found r = record { number = 0; values = pos (r .leg) ∷ pos (r .offset) ∷ pos (r .laps) ∷ [] }
 
 abbrev pub toldRunner : RunnerAnswer → Told
 toldRunner (At r) = found r
@@ -52,18 +55,28 @@ reduced Free p t = t
 reduced Held p t = t
 reduced Closed p t = t % p
 
+-- M10: the whole laps in a tick of a closed course; an open one has none
+abbrev pub lapsIn : EndKind → ℕ → ℕ → ℕ
+lapsIn Free p t = 0
+lapsIn Held p t = 0
+lapsIn Closed p t = t / p
+
 -- P3: leg i where t, counted from its start, is below its length, or else one of the k legs after it; the last of them in any case
 unfoldable pub walk : (ℕ → ℕ) → ℕ → ℕ → ℕ → Runner
 walk h zero i t = runner i t
 walk h (suc k) i t = cond (ltb t (h i)) (runner i t) (walk h k (suc i) (t - h i))
 
--- P3, P4: the leg and offset of a tick
+-- P3, P4, M10: the leg and offset of a tick, and its laps
 unfoldable pub spotAt : List ℕ → ℕ → Runner
-spotAt s t = walk (leg s) (legs s - 1) 0 (reduced (kind s) (ticks s) t)
+spotAt s t = atLap (lapsIn (kind s) (ticks s) t) (walk (leg s) (legs s - 1) 0 (reduced (kind s) (ticks s) t))
 
 -- the tick, from 0, at which a runner stands
 unfoldable pub tickOf : List ℕ → Runner → ℕ
 tickOf s r = sumBelow (leg s) (r .leg) + r .offset
+
+-- M11: the ticks that it has flown, its laps and then those up to where it stands
+unfoldable pub ticksFlown : List ℕ → Runner → ℕ
+ticksFlown s r = r .laps * ticks s + tickOf s r
 
 -- N10: an open course has no tick over P
 abbrev pub past : List ℕ → ℕ → Bool

@@ -3,7 +3,7 @@ ghost use mathlib.Core.Path.{_≡_};
 ghost use mathlib.Core.Bool.{false};
 ghost use Prim.Native.Nat.{_<_};
 ghost use Rattle.answers.specs.Answers.{toldOutcome, bare};
-ghost use Rattle.runner.specs.Ticks.{IsRead, toldRunner};
+ghost use Rattle.runner.specs.Ticks.{IsRead, atLap, toldRunner};
 ghost use Rattle.runner.specs.Steps.{adrift};
 ghost use Rattle.runner.specs.Backs.{atStart, lastTick, movedBack, backed, backward};
 use crate::Runner;
@@ -11,49 +11,49 @@ use crate::RunnerAnswer;
 use crate::records::RunnerOutcome;
 use crate::records::kept;
 use crate::steps::is_adrift;
-use crate::ticks::is_open;
 use answers::Outcome;
 use ends::EndKind;
 use sheet::Reading;
 use sheet::Refusal;
 use sheet::leg_length;
 
-// N15: at the first tick of an open course.
-fn is_at_start(s: &[u8], kind: EndKind, legs: usize, at: Runner) -> bool
-    requires { ⌜ IsRead (now s) kind legs ⌝ }
-    ensures { λ r. ⌜ r ≡ atStart (now (s .entry)) at ⌝ }
+// N15: at the first waypoint with no lap flown.
+fn is_at_start(at: Runner) -> bool
+    ensures { λ r. ⌜ r ≡ atStart at ⌝ }
 {
-    is_open(kind) & (at.leg == 0) & (at.offset == 0)
+    (at.leg == 0) & (at.offset == 0) & (at.laps == 0)
 }
 
-// The last tick of a leg.
-fn last_tick(s: &[u8], kind: EndKind, legs: usize, leg: u64) -> Runner
+// The last tick of a leg, at a count of laps.
+fn last_tick(s: &[u8], kind: EndKind, legs: usize, leg: u64, laps: u64) -> Runner
     requires { ⌜ IsRead (now s) kind legs ⌝ }
     requires { ⌜ leg < legs ⌝ }
-    ensures { λ r. ⌜ r ≡ lastTick (now (s .entry)) leg ⌝ }
+    ensures { λ r. ⌜ r ≡ atLap laps (lastTick (now (s .entry)) leg) ⌝ }
 {
     let offset = leg_length(s, leg as usize) - 1;
-    Runner { leg, offset }
+    Runner { leg, offset, laps }
 }
 
-// One tick back: on its leg, over a waypoint onto the leg before, or from waypoint 0 round onto the closing leg.
+// One tick back: on its leg, over a waypoint onto the leg before, or from waypoint 0 round onto the closing leg, which takes a lap off.
 fn moved_back(s: &[u8], kind: EndKind, legs: usize, at: Runner) -> Runner
     requires { ⌜ IsRead (now s) kind legs ⌝ }
-    requires { ⌜ adrift (now s) at ≡ false ⌝ }
+    requires { ⌜ (adrift (now s) at ≡ false) × (atStart at ≡ false) ⌝ }
     ensures { λ r. ⌜ r ≡ movedBack (now (s .entry)) at ⌝ }
 {
     let leg = at.leg;
     let offset = at.offset;
+    let laps = at.laps;
     if 0 < offset {
         return Runner {
             leg,
             offset: offset - 1,
+            laps,
         };
     }
     if 0 < leg {
-        return last_tick(s, kind, legs, leg - 1);
+        return last_tick(s, kind, legs, leg - 1, laps);
     }
-    last_tick(s, kind, legs, legs as u64 - 1)
+    last_tick(s, kind, legs, legs as u64 - 1, laps - 1)
 }
 
 // Back by value (A12). Tests 1 to 8, 11 and 15.
@@ -73,7 +73,7 @@ pub fn backed(s: &[u8], at: Runner) -> RunnerAnswer
     if is_adrift(s, kind, legs, at) {
         return RunnerAnswer::Refused(Refusal::Adrift);
     }
-    if is_at_start(s, kind, legs, at) {
+    if is_at_start(at) {
         return RunnerAnswer::Refused(Refusal::Start);
     }
     RunnerAnswer::At(moved_back(s, kind, legs, at))

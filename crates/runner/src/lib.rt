@@ -19,10 +19,11 @@ pub use ticks::is_past;
 pub use ticks::runner_at_tick;
 pub use ticks::spot_at;
 
-// M1: which leg, the first being 0, and how many ticks along it.
+// M1: which leg, the first being 0, how many ticks along it, and the laps flown.
 pub struct Runner {
     pub leg: u64,
     pub offset: u64,
+    pub laps: u64,
 }
 
 // A runner, or the refusal.

@@ -4,7 +4,7 @@ ghost use mathlib.Core.Bool.{false};
 ghost use Prim.Native.Nat.{_<_};
 ghost use Rattle.runner.specs.Ticks.{IsRead, toldRunner};
 ghost use Rattle.answers.specs.Answers.{toldOutcome, bare};
-ghost use Rattle.runner.specs.Steps.{adrift, landed, moved, stepped, onward};
+ghost use Rattle.runner.specs.Steps.{offLegs, adrift, nextLap, landed, moved, stepped, onward};
 use crate::Runner;
 use crate::RunnerAnswer;
 use crate::records::RunnerOutcome;
@@ -25,10 +25,10 @@ pub fn is_landed(s: &[u8], kind: EndKind, legs: usize, at: Runner) -> bool
     is_open(kind) & (at.leg + 1 == legs as u64) & (at.offset == leg_length(s, at.leg as usize))
 }
 
-// N11: on none of the legs, or not below its leg's length; an open course's end is allowed.
-pub fn is_adrift(s: &[u8], kind: EndKind, legs: usize, at: Runner) -> bool
+// N11, of leg and offset: on none of the legs, or not below its leg's length; an open course's end is allowed.
+fn is_off_legs(s: &[u8], kind: EndKind, legs: usize, at: Runner) -> bool
     requires { ⌜ IsRead (now s) kind legs ⌝ }
-    ensures { λ r. ⌜ r ≡ adrift (now (s .entry)) at ⌝ }
+    ensures { λ r. ⌜ r ≡ offLegs (now (s .entry)) at ⌝ }
 {
     if legs as u64 <= at.leg {
         return true;
@@ -39,7 +39,28 @@ pub fn is_adrift(s: &[u8], kind: EndKind, legs: usize, at: Runner) -> bool
     !is_landed(s, kind, legs, at)
 }
 
-// One tick on: on its leg, to the start of the next one, to the end of an open course, or round to the first waypoint.
+// N11: off the legs, or on an open course with a lap.
+pub fn is_adrift(s: &[u8], kind: EndKind, legs: usize, at: Runner) -> bool
+    requires { ⌜ IsRead (now s) kind legs ⌝ }
+    ensures { λ r. ⌜ r ≡ adrift (now (s .entry)) at ⌝ }
+{
+    is_off_legs(s, kind, legs, at) | (is_open(kind) & (0 < at.laps))
+}
+
+// M10: the largest count of laps, 2^64 - 1.
+const MOST_LAPS: u64 = 18446744073709551615;
+
+// M10: one lap more, save at the largest count.
+fn next_lap(laps: u64) -> u64
+    ensures { λ r. ⌜ r ≡ nextLap laps ⌝ }
+{
+    if laps == MOST_LAPS {
+        return laps;
+    }
+    laps + 1
+}
+
+// One tick on: on its leg, to the start of the next one, to the end of an open course, or round to the first waypoint, which is a lap more.
 pub fn moved(s: &[u8], kind: EndKind, legs: usize, at: Runner) -> Runner
     requires { ⌜ IsRead (now s) kind legs ⌝ }
     requires { ⌜ adrift (now s) at ≡ false ⌝ }
@@ -48,19 +69,37 @@ pub fn moved(s: &[u8], kind: EndKind, legs: usize, at: Runner) -> Runner
 {
     let leg = at.leg;
     let next = at.offset + 1;
+    let laps = at.laps;
     if next < leg_length(s, leg as usize) {
-        return Runner { leg, offset: next };
+        return Runner {
+            leg,
+            offset: next,
+            laps,
+        };
     }
     if leg + 1 < legs as u64 {
         return Runner {
             leg: leg + 1,
             offset: 0,
+            laps,
         };
     }
     match kind {
-        EndKind::Free => Runner { leg, offset: next },
-        EndKind::Held => Runner { leg, offset: next },
-        EndKind::Closed => Runner { leg: 0, offset: 0 },
+        EndKind::Free => Runner {
+            leg,
+            offset: next,
+            laps,
+        },
+        EndKind::Held => Runner {
+            leg,
+            offset: next,
+            laps,
+        },
+        EndKind::Closed => Runner {
+            leg: 0,
+            offset: 0,
+            laps: next_lap(laps),
+        },
     }
 }
 

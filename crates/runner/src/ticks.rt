@@ -1,4 +1,4 @@
-// The leg and offset of a tick (P3, P4, P7), and the runner from a tick (A6). For place too.
+// The leg, offset and laps of a tick (P3, P4, P7, M10), and the runner from a tick (A6). For place too.
 ghost use mathlib.Core.Path.{_≡_};
 ghost use mathlib.Core.Bool.{_&&_};
 ghost use Prim.Native.Nat.{ℕ, _+_, _-_, _*_, _≤_, _<_};
@@ -8,7 +8,7 @@ ghost use Rattle.sheet.specs.Bytes.{sumBelow};
 ghost use Rattle.sheet.specs.Carried.{stride, Carried};
 ghost use Rattle.sheet.specs.Fields.{leg, ticks as sumOfLegs};
 ghost use Rattle.sheet.specs.Reading.{mostPoints};
-ghost use Rattle.runner.specs.Ticks.{IsRead, isOpen, reduced, walk, spotAt, runnerAtTick, toldRunner};
+ghost use Rattle.runner.specs.Ticks.{IsRead, isOpen, reduced, lapsIn, atLap, walk, spotAt, runnerAtTick, toldRunner};
 use crate::Runner;
 use crate::RunnerAnswer;
 use ends::EndKind;
@@ -47,6 +47,18 @@ fn reduced(kind: EndKind, ticks: u64, tick: u64) -> u64
     }
 }
 
+// M10: the whole laps in a tick of a closed course.
+fn laps_in(kind: EndKind, ticks: u64, tick: u64) -> u64
+    requires { ⌜ 1 ≤ ticks ⌝ }
+    ensures { λ r. ⌜ r ≡ lapsIn kind ticks tick ⌝ }
+{
+    match kind {
+        EndKind::Free => 0,
+        EndKind::Held => 0,
+        EndKind::Closed => tick / ticks,
+    }
+}
+
 // P7: by the kept sums, the last sixteenth leg that starts at the tick or before it: at most sixteen legs are left to walk. (No sum is over 131,072: N4, N6.)
 fn sixteenth_at(legs: usize, sums: &[u32; SUMS], tick: u64) -> usize
     requires { ⌜ (1 ≤ legs) × (legs ≤ mostPoints) × (getD (now sums) 0 0 ≤ tick) ⌝ }
@@ -64,11 +76,11 @@ fn sixteenth_at(legs: usize, sums: &[u32; SUMS], tick: u64) -> usize
     b
 }
 
-// P3, P7: the walk along the legs, from leg `first` and the sum before it on. It carries the sum along; a tick that no leg ends after is on the last.
-fn leg_from(s: &[u8], legs: usize, first: usize, before: u64, tick: u64) -> Runner
+// P3, P7: the walk along the legs, from leg `first` and the sum before it on. It carries the sum along; a tick that no leg ends after is on the last. The laps are the caller's.
+fn leg_from(s: &[u8], legs: usize, first: usize, before: u64, tick: u64, laps: u64) -> Runner
     requires { ⌜ (first < legs) × (8 + 2 * legs ≤ length (now s)) × (sumBelow (leg (now s)) legs ≤ 131072) ⌝ }
     requires { ⌜ (before ≡ sumBelow (leg (now s)) first) × (before ≤ tick) ⌝ }
-    ensures { λ r. ⌜ r ≡ walk (leg (now (s .entry))) (legs - 1) 0 tick ⌝ }
+    ensures { λ r. ⌜ r ≡ atLap laps (walk (leg (now (s .entry))) (legs - 1) 0 tick) ⌝ }
 {
     let mut i = first;
     let mut start = before;
@@ -78,6 +90,7 @@ fn leg_from(s: &[u8], legs: usize, first: usize, before: u64, tick: u64) -> Runn
             return Runner {
                 leg: i as u64,
                 offset: tick - start,
+                laps,
             };
         }
         start = end;
@@ -86,10 +99,11 @@ fn leg_from(s: &[u8], legs: usize, first: usize, before: u64, tick: u64) -> Runn
     Runner {
         leg: i as u64,
         offset: tick - start,
+        laps,
     }
 }
 
-// The leg and offset of a tick, reduced first; reading left the sums.
+// The leg and offset of a tick, reduced first, with its laps; reading left the sums.
 pub fn spot_at(
     s: &[u8],
     kind: EndKind,
@@ -103,8 +117,9 @@ pub fn spot_at(
     ensures { λ r. ⌜ r ≡ spotAt (now (s .entry)) tick ⌝ }
 {
     let here = reduced(kind, ticks, tick);
+    let laps = laps_in(kind, ticks, tick);
     let b = sixteenth_at(legs, sums, here);
-    leg_from(s, legs, STRIDE * b, sums[b] as u64, here)
+    leg_from(s, legs, STRIDE * b, sums[b] as u64, here, laps)
 }
 
 // The runner from a tick (A6). Tests 1 to 8 and 10.

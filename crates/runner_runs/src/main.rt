@@ -1,6 +1,6 @@
 // Runners on six sheets, a line to a case: the runner at each tick up to P + 1, steps three times round the closed courses and past the end of the
-// open ones and as many backs and more, the last of the unsigned 64-bit ticks, runners that are adrift, have landed or are at the start, and a sheet that is torn.
-// Each step and each back is made on a lent record.
+// open ones and as many backs and more, the last of the unsigned 64-bit ticks, runners that are adrift, have landed or are at the start, laps up to the largest count,
+// and a sheet that is torn. Each step and each back is made on a lent record. `stdout` was worked out from the requirements by a program of its own.
 ghost use Prim.Native.Nat.{_≤_};
 ghost use lib.ListN.{length};
 use answers::Outcome;
@@ -35,6 +35,8 @@ fn print_runner(at: Runner) {
     io::print_decimal(STDOUT_FILENO, at.leg);
     print(b" offset ");
     io::print_decimal(STDOUT_FILENO, at.offset);
+    print(b" laps ");
+    io::print_decimal(STDOUT_FILENO, at.laps);
 }
 
 fn print_answer(answer: RunnerAnswer) {
@@ -61,7 +63,7 @@ fn show_ticks(name: &[u8], s: &[u8], from: u64, till: u64) {
 }
 
 // A step or a back of a runner that may be anywhere.
-fn show_move(name: &[u8], s: &[u8], is_step: bool, leg: u64, offset: u64) -> Runner {
+fn show_move(name: &[u8], s: &[u8], is_step: bool, leg: u64, offset: u64, laps: u64) -> Runner {
     print(name);
     if is_step {
         print(b" from ");
@@ -71,8 +73,10 @@ fn show_move(name: &[u8], s: &[u8], is_step: bool, leg: u64, offset: u64) -> Run
     io::print_decimal(STDOUT_FILENO, leg);
     print(b" ");
     io::print_decimal(STDOUT_FILENO, offset);
+    print(b" ");
+    io::print_decimal(STDOUT_FILENO, laps);
     print(b": ");
-    let at = Runner { leg, offset };
+    let at = Runner { leg, offset, laps };
     let after = if is_step {
         step_record(s, at)
     } else {
@@ -91,18 +95,29 @@ fn show_move(name: &[u8], s: &[u8], is_step: bool, leg: u64, offset: u64) -> Run
 fn show_moves(name: &[u8], s: &[u8], is_step: bool, count: u64, start: Runner) -> Runner {
     let mut leg = start.leg;
     let mut offset = start.offset;
+    let mut laps = start.laps;
     for _ in 0..count {
-        let at = show_move(name, s, is_step, leg, offset);
+        let at = show_move(name, s, is_step, leg, offset, laps);
         leg = at.leg;
         offset = at.offset;
+        laps = at.laps;
     }
-    Runner { leg, offset }
+    Runner { leg, offset, laps }
 }
 
-// Steps from the first waypoint, and then backs.
-fn show_steps(name: &[u8], s: &[u8], steps: u64, backs: u64) {
-    let end = show_moves(name, s, true, steps, Runner { leg: 0, offset: 0 });
+// Steps from a runner, and then backs.
+fn show_steps(name: &[u8], s: &[u8], start: Runner, steps: u64, backs: u64) {
+    let end = show_moves(name, s, true, steps, start);
     show_moves(name, s, false, backs, end);
+}
+
+// At the first waypoint with no lap flown.
+fn first() -> Runner {
+    Runner {
+        leg: 0,
+        offset: 0,
+        laps: 0,
+    }
 }
 
 // Free, legs 2 and 3; and the same sheet with its last byte missing.
@@ -114,18 +129,22 @@ fn run_free() {
     s[9] = 2;
     s[11] = 3;
     show_ticks(b"free", &s, 0, 7);
-    show_steps(b"free", &s, 8, 7);
-    show_move(b"free", &s, true, 0, 2);
-    show_move(b"free", &s, true, 1, 4);
-    show_move(b"free", &s, true, 2, 0);
-    show_move(b"free", &s, true, 0, LAST);
-    show_move(b"free", &s, true, LAST, LAST);
-    show_move(b"free", &s, false, 0, 2);
-    show_move(b"free", &s, false, 2, 0);
-    show_move(b"free", &s, false, 0, LAST);
+    show_steps(b"free", &s, first(), 8, 7);
+    show_move(b"free", &s, true, 0, 2, 0);
+    show_move(b"free", &s, true, 1, 4, 0);
+    show_move(b"free", &s, true, 2, 0, 0);
+    show_move(b"free", &s, true, 0, LAST, 0);
+    show_move(b"free", &s, true, LAST, LAST, 0);
+    show_move(b"free", &s, false, 0, 2, 0);
+    show_move(b"free", &s, false, 2, 0, 0);
+    show_move(b"free", &s, false, 0, LAST, 0);
+    show_move(b"free", &s, true, 0, 0, 1);
+    show_move(b"free", &s, true, 1, 3, LAST);
+    show_move(b"free", &s, false, 0, 0, 1);
+    show_move(b"free", &s, false, 1, 1, LAST);
     show_tick(b"torn", &s[..47], 0);
-    show_move(b"torn", &s[..47], true, LAST, LAST);
-    show_move(b"torn", &s[..47], false, 0, 0);
+    show_move(b"torn", &s[..47], true, LAST, LAST, LAST);
+    show_move(b"torn", &s[..47], false, 0, 0, 0);
 }
 
 // Held, one leg of 4.
@@ -138,7 +157,8 @@ fn run_held() {
     s[9] = 4;
     show_ticks(b"held", &s, 0, 6);
     show_tick(b"held", &s, LAST);
-    show_steps(b"held", &s, 7, 6);
+    show_steps(b"held", &s, first(), 7, 6);
+    show_move(b"held", &s, true, 0, 0, 1);
 }
 
 // Closed, four legs of 2.
@@ -154,12 +174,21 @@ fn run_even() {
     s[15] = 2;
     show_ticks(b"even", &s, 0, 10);
     show_tick(b"even", &s, LAST);
-    show_steps(b"even", &s, 25, 27);
-    show_move(b"even", &s, true, 3, 2);
-    show_move(b"even", &s, true, 4, 0);
-    show_move(b"even", &s, true, LAST, 0);
-    show_move(b"even", &s, false, 3, 2);
-    show_move(b"even", &s, false, LAST, 0);
+    show_steps(b"even", &s, first(), 25, 27);
+    show_move(b"even", &s, true, 3, 2, 0);
+    show_move(b"even", &s, true, 4, 0, 0);
+    show_move(b"even", &s, true, LAST, 0, 0);
+    show_move(b"even", &s, false, 3, 2, 0);
+    show_move(b"even", &s, false, LAST, 0, 0);
+    show_move(b"even", &s, true, 4, 0, LAST);
+    // up to the largest count, round once more with it, and back
+    let late = Runner {
+        leg: 3,
+        offset: 0,
+        laps: LAST - 1,
+    };
+    show_steps(b"even", &s, late, 11, 12);
+    show_move(b"even", &s, false, 0, 1, LAST);
 }
 
 // Closed, legs 1, 3 and 2.
@@ -174,7 +203,7 @@ fn run_mixed() {
     s[13] = 2;
     show_ticks(b"mixed", &s, 0, 8);
     show_tick(b"mixed", &s, LAST);
-    show_steps(b"mixed", &s, 19, 21);
+    show_steps(b"mixed", &s, first(), 19, 21);
 }
 
 // The legs 1, 2, .., as many as are asked for.

@@ -122,6 +122,11 @@ pub fn serve(s: &[u8], list: &[i64], seats: usize, turn: u64, at: Runner) -> Sea
 pub fn turned_away(s: &[u8], list: &[i64], seats: usize, turn: u64) -> RoundAnswer
     ensures { λ r. ⌜ (toldPlaced (r .placed) ≡ served (now (s .entry)) (now (list .entry)) seats turn nobody) × (r .placed .place .at ≡ placeHeld (served (now (s .entry)) (now (list .entry)) seats turn nobody)) × (toldNext (r .next) ≡ turnAfter (now (s .entry)) (now (list .entry)) seats turn) ⌝ }
 {
-    let n = serve(s, list, seats, turn, Runner { leg: 0, offset: 0 });
+    let nobody = Runner {
+        leg: 0,
+        offset: 0,
+        laps: 0,
+    };
+    let n = serve(s, list, seats, turn, nobody);
     n.answer
 }

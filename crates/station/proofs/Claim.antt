@@ -1,10 +1,9 @@
 -- Demand 3 (group C), proved. One axis is the spline crate's; here it meets the sheet, the list and the tests.
 use mathlib.Core.Path.{_≡_, refl, _∙_, ap, subst⁻¹}
-use mathlib.Core.Bool.{Bool, true, false, _&&_}
+use mathlib.Core.Bool.{Bool, false}
 use mathlib.Core.List.{List}
 use Prim.Native.Nat.{ℕ, suc, _*_, _^_, _≤_, _<_}
 use native.Mathlib.Omega.{arith}
-use lib.Dec.{ltb}
 use lib.IntN.{ℤ, pos, negsuc, natAbs}
 use lib.ListN.{length}
 use borrow.Author.Tests.{le-ltb}
@@ -48,8 +47,8 @@ fits-leg : (s : List ℕ) (r : Runner) → adrift s r ≡ false → (r .leg < le
 fits-leg s r fits = go (standing s r fits)
   where
     go : Standing s r → (r .leg < legs s) × (r .offset ≤ leg s (r .leg))
-    go (on-leg l u) = (l, omega arith)
-    go (at-end o l u) = (omega arith, omega arith)
+    go (on-leg l u w) = (l, omega arith)
+    go (at-end o l u z) = (omega arith, omega arith)
 
 -- the first part, as `omega` takes it
 leg-fits : (s : List ℕ) (r : Runner) → adrift s r ≡ false → r .leg < legs s
@@ -100,6 +99,7 @@ module _ (s : List ℕ) (accepted : Accepted s) where
 
     answered : (r : Runner) → r .leg < legs s → adrift s r ≡ false → (answer : Told)
         → answer ≡ guard (bendOutside s list (r .leg)) Bend (placed s list r) → Answered s list r answer
+    unfolding placeOn
     answered r l fits answer e = record {
       place = e ∙ ap (λ (b : Bool). guard b Bend (placed s list r)) (bends-inside (r .leg) l);
       near = near (r .leg) l (r .offset) (fits-leg s r fits .1);
@@ -116,20 +116,20 @@ module _ (s : List ℕ) (accepted : Accepted s) where
     by-tick t now fits = answered (spotAt s t) (leg-fits s (spotAt s t) fits) fits (placeAtTick s list t)
         (past-shelf list (own-long s list own) _ ∙ ap (λ (b : Bool). guard b Past (guard (bendOutside s list (spotAt s t .leg)) Bend (placed s list (spotAt s t)))) now)
 
-  open-tick : isOpen (kind s) ≡ true → (t : ℕ) → t ≤ ticks s → (past s t ≡ false) × (adrift s (spotAt s t) ≡ false)
-  open-tick o t h = (rw (o, le-ltb (ticks s) t h), tick-stands s accepted t .0 o h .fits)
+  -- the course's ticks (C6), by the kind of ends, are not past it
+  not-past : (k : EndKind) → kind s ≡ k → (t : ℕ) → Answers k (ticks s) t → past s t ≡ false
+  not-past Free e t h = rw (ap isOpen e, le-ltb (ticks s) t (omega arith))
+  not-past Held e t h = rw (ap isOpen e, le-ltb (ticks s) t (omega arith))
+  not-past Closed e t h = rw (ap isOpen e)
 
-  -- the course's ticks (C6), by the kind of ends
-  pub answerable : (k : EndKind) → kind s ≡ k → (t : ℕ) → Answers k (ticks s) t → (past s t ≡ false) × (adrift s (spotAt s t) ≡ false)
-  answerable Free e t h = open-tick (ap isOpen e) t (omega arith)
-  answerable Held e t h = open-tick (ap isOpen e) t (omega arith)
-  answerable Closed e t h = (ap (λ (k : EndKind). isOpen k && ltb (ticks s) t) e, tick-stands s accepted t .1 e .fits)
+  pub answerable : (t : ℕ) → Answers (kind s) (ticks s) t → (past s t ≡ false) × (adrift s (spotAt s t) ≡ false)
+  answerable t h = let now = not-past (kind s) refl t h in (now, tick-stands s accepted t now .fits)
 
 pub claim : Claim
 claim s accepted = record {
   exists = λ axis h. spline-exists (course s axis) (course-in-bounds s accepted axis h);
   same = λ axis h. one-curve (course s axis) (course-in-bounds s accepted axis h);
   laying = λ list long. let e = done-answer s (length list) accepted (omega arith) in (e, done-list s list e);
-  by-tick = λ list own t h. let (now, fits) = answerable s accepted (kind s) refl t h in by-tick s accepted list own t now fits;
+  by-tick = λ list own t h. let (now, fits) = answerable s accepted t h in by-tick s accepted list own t now fits;
   by-runner = λ list own r fits. by-runner s accepted list own r (omega (arith, leg-fits)) fits;
 }

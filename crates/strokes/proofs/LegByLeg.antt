@@ -50,7 +50,7 @@ module _ {s : List ℕ} {list : List ℤ} {n l t : ℕ} (o : OnCourse s list n l
     is-points = o .is-points;
     is-legs = o .is-legs;
     room = o .room;
-    fits = not-adrift s (runner i 0) (on-leg h (bounds .leg-low i h));
+    fits = not-adrift s (runner i 0) (on-leg h (bounds .leg-low i h) (λ _. refl));
   }
 
   pub within : bendOutside s list i ≡ false

@@ -56,6 +56,7 @@ fn put_places(
     let at = Runner {
         leg: i as u64,
         offset: 0,
+        laps: 0,
     };
     let n = numbers_on(s, list, points, legs, at, end, axis);
     let v = n.v;

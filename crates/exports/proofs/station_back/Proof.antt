@@ -1,4 +1,4 @@
--- `exports::station_back` meets its contract: a slice with two numbers lends a runner, and a shorter one none; telling writes the answer.
+-- `exports::station_back` meets its contract: a slice with three numbers lends a runner, and a shorter one none; telling writes the answer.
 use mathlib.Core.Path.{_∙_}
 use Rattle.runner.specs.Backs.{backed}
 use Rattle.exports.specs.Written.{unsigned}
@@ -29,6 +29,9 @@ slice-read-leg c = search needs
 slice-read-offset : tie.Need-slice-read-offset
 slice-read-offset c = search needs
 
+slice-read-laps : tie.Need-slice-read-laps
+slice-read-laps c = search needs
+
 backed-requires : tie.Need-backed-requires
 backed-requires c κs = search needs
 
@@ -40,8 +43,8 @@ same-length-2 c = search needs
 
 returns-2 : tie.Need-returns-2
 returns-2 c =
-    let t = c .before .before in let s = t .before .before .before .before .before .before .before .before .args in
-    let room = t .before .before .before .before .before .if1 .left in
+    let t = c .before .before in let s = t .before .before .before .before .before .before .before .before .before .args in
+    let room = t .before .before .before .before .before .before .if1 .left in
     tells-on unsigned (s .lent .now) (t .tell-runner2 .ensures) (t .before .before .backed .ensures ∙ runner-lent backed (s .sheet .now) (s .lent .now) room)
 
 pub station-back-spec : {M : Type 1} → statement M
@@ -54,6 +57,7 @@ station-back-spec =
     returns
     slice-read-leg
     slice-read-offset
+    slice-read-laps
     backed-requires
     tell-runner-requires-2
     same-length-2

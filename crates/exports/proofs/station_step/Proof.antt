@@ -1,4 +1,4 @@
--- `exports::station_step` meets its contract: a slice with two numbers lends a runner, and a shorter one none; telling writes the answer.
+-- `exports::station_step` meets its contract: a slice with three numbers lends a runner, and a shorter one none; telling writes the answer.
 use mathlib.Core.Path.{_∙_}
 use Rattle.runner.specs.Steps.{stepped}
 use Rattle.exports.specs.Written.{unsigned}
@@ -29,6 +29,9 @@ slice-read-leg c = search needs
 slice-read-offset : tie.Need-slice-read-offset
 slice-read-offset c = search needs
 
+slice-read-laps : tie.Need-slice-read-laps
+slice-read-laps c = search needs
+
 stepped-requires : tie.Need-stepped-requires
 stepped-requires c κs = search needs
 
@@ -40,8 +43,8 @@ same-length-2 c = search needs
 
 returns-2 : tie.Need-returns-2
 returns-2 c =
-    let t = c .before .before in let s = t .before .before .before .before .before .before .before .before .args in
-    let room = t .before .before .before .before .before .if1 .left in
+    let t = c .before .before in let s = t .before .before .before .before .before .before .before .before .before .args in
+    let room = t .before .before .before .before .before .before .if1 .left in
     tells-on unsigned (s .lent .now) (t .tell-runner2 .ensures) (t .before .before .stepped .ensures ∙ runner-lent stepped (s .sheet .now) (s .lent .now) room)
 
 pub station-step-spec : {M : Type 1} → statement M
@@ -54,6 +57,7 @@ station-step-spec =
     returns
     slice-read-leg
     slice-read-offset
+    slice-read-laps
     stepped-requires
     tell-runner-requires-2
     same-length-2

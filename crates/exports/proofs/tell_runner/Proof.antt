@@ -1,4 +1,4 @@
--- `exports::tell_runner` meets its contract: two numbers are written, or a refusal's number is given.
+-- `exports::tell_runner` meets its contract: three numbers are written, or a refusal's number is given.
 use mathlib.Core.Path.{sym, ap}
 use Rattle.runner.specs.Ticks.{toldRunner}
 use Rattle.exports.specs.Written.{unsigned}
@@ -10,8 +10,8 @@ use Rattle.exports.proofs.tell_runner.Tie as tie
 enum-known-answer : tie.Need-enum-known-answer
 enum-known-answer c = search needs
 
-put-two-requires : tie.Need-put-two-requires
-put-two-requires c κs = search needs
+put-three-requires : tie.Need-put-three-requires
+put-three-requires c κs = search needs
 
 enum-known-answer-2 : tie.Need-enum-known-answer-2
 enum-known-answer-2 c = search needs
@@ -25,7 +25,7 @@ same-length c = search needs
 returns : tie.Need-returns
 returns c =
     let a = c .before .before .before .before .before .answer in
-    done-written unsigned _ _ (ap toldRunner (sym (a .given .1))) _ _ (c .before .before .put-two .ensures)
+    done-written unsigned _ _ (ap toldRunner (sym (a .given .1))) _ _ (c .before .before .put-three .ensures)
 
 returns-2 : tie.Need-returns-2
 returns-2 c = let a = c .before .before .answer2 in kept-written unsigned _ (a .given .0 .0) (ap toldRunner (sym (a .given .1))) _ (c .number-of .ensures) _
@@ -35,7 +35,7 @@ tell-runner-spec =
     tie.close
     (tie.spec
     enum-known-answer
-    put-two-requires
+    put-three-requires
     enum-known-answer-2
     number-of-requires
     same-length

@@ -16,9 +16,9 @@ use Rattle.layout.specs.Layout.{short}
 use Rattle.runner.specs.Ticks.{isOpen, past}
 use Rattle.runner.specs.Steps.{adrift}
 use Rattle.runner.proofs.Entry.{Course, course, carried}
+use Rattle.runner.proofs.Standing.{tick-stands}
 use Rattle.place.specs.Places.{bendOrPlace, placeAtTick}
 use Rattle.place.proofs.Entry.{read-refused, shelf-refused, let-on, few-points, fitting}
-use Rattle.place.proofs.Waypoints.{spot-fits}
 use Rattle.place.proofs.place_at_tick.Statement.{statement}
 use Rattle.place.proofs.place_at_tick.Tie as tie
 
@@ -105,7 +105,7 @@ spot-at-requires c κs =
 place-at-requires : tie.Need-place-at-requires
 place-at-requires c κs =
     let g = c .before .before in let q = g .before .before in let w = q .before .before in let k = w .before in let told = told-course k in
-    let stands = spot-fits (s k) (told .is-read _ (g .leg-count .ensures) .accepted) (tick k) (sym (past-said q) ∙ g .before .if2 .left) in
+    let stands = tick-stands (s k) (told .is-read _ (g .leg-count .ensures) .accepted) (tick k) (sym (past-said q) ∙ g .before .if2 .left) .fits in
     fitting told (list k) (w .is-short .ensures) (q .before .if1 .left) (g .leg-count .result) (c .spot-at .result) (g .leg-count .ensures)
     (ap (adrift (s k)) (c .spot-at .ensures) ∙ stands)
 

@@ -5,10 +5,10 @@ use Rattle.runner_runs.proofs.show_moves.Statement.{statement}
 use Rattle.runner_runs.proofs.show_moves.Tie as tie
 
 abbrev Inv-loop : tie.InvT-loop
-Inv-loop name s is-step count leg₀ offset₀ counter₀ leg offset counter = counter ≤ count
+Inv-loop name s is-step count leg₀ offset₀ laps₀ counter₀ leg offset laps counter = counter ≤ count
 
 abbrev μ-loop : tie.MeasureT-loop
-μ-loop name s is-step count leg₀ offset₀ counter₀ leg offset counter = count - counter
+μ-loop name s is-step count leg₀ offset₀ laps₀ counter₀ leg offset laps counter = count - counter
 
 loop-holds : tie.Need-loop-holds Inv-loop μ-loop
 loop-holds c = search needs

@@ -1,4 +1,4 @@
--- `fleet::numbers::record_at` meets its contract: two numbers are a seat's record, and past the last seat there is nobody.
+-- `fleet::numbers::record_at` meets its contract: three numbers are a seat's record, and past the last seat there is nobody.
 use mathlib.Core.Path.{_≡_, refl, sym}
 use mathlib.Core.List.{[], _∷_}
 use native.Mathlib.Omega.{arith}
@@ -6,14 +6,14 @@ use lib.ListN.{List·getD-eq-default}
 use Rattle.integers.proofs.Tried.{Tried, tried}
 use Rattle.seat.specs.Serving.{nobody}
 use Rattle.fleet.specs.Numbers.{records}
-use Rattle.fleet.proofs.Pairs.{count-is, seat-lent}
+use Rattle.fleet.proofs.Triples.{count-is, seat-lent}
 use borrow.Author.Needs.{needs}
 use Rattle.fleet.proofs.numbers.record_at.Statement.{statement}
 use Rattle.fleet.proofs.numbers.record_at.Tie as tie
 
--- tried: seat 1 of two, leg 1 and offset 2
-seat-tried : (c : tie.After-shared-slice-known2) → let a = c .before .before .before .args in
-    a .turn ≡ 1 → a .lent .now ≡ 0 ∷ 0 ∷ 1 ∷ 2 ∷ [] → Tried
+-- tried: seat 1 of two, leg 1, offset 2, 3 laps
+seat-tried : (c : tie.After-shared-slice-known3) → let a = c .before .before .before .before .args in
+    a .turn ≡ 1 → a .lent .now ≡ 0 ∷ 0 ∷ 0 ∷ 1 ∷ 2 ∷ 3 ∷ [] → Tried
 unfolding records
 seat-tried c t l = tried (λ (need : tie.Need-returns-2). need c) (simp (t, l) refl)
 
@@ -40,9 +40,18 @@ mul-offset c = search needs
 shared-slice-read-offset : tie.Need-shared-slice-read-offset
 shared-slice-read-offset c = search needs
 
+add-laps : tie.Need-add-laps
+add-laps c = search needs
+
+mul-laps : tie.Need-mul-laps
+mul-laps c = search needs
+
+shared-slice-read-laps : tie.Need-shared-slice-read-laps
+shared-slice-read-laps c = search needs
+
 returns-2 : tie.Need-returns-2
 returns-2 c =
-    let e = c .before .before in let a = e .before .args in
+    let e = c .before .before .before in let a = e .before .args in
     sym (seat-lent (a .lent .now) (a .turn) (omega (arith, count-is (a .lent .now), e .if1 .left)))
 
 pub record-at-spec : {M : Type 1} → statement M
@@ -56,4 +65,7 @@ record-at-spec =
     add-offset
     mul-offset
     shared-slice-read-offset
+    add-laps
+    mul-laps
+    shared-slice-read-laps
     returns-2)

@@ -3,7 +3,7 @@ use mathlib.Core.Path.{sym, ap, subst₂, _∙_}
 use Rattle.seat.proofs.Chain.{Served}
 use Rattle.fleet.specs.Numbers.{records, withRecords, numbersAfter}
 use Rattle.fleet.proofs.Lent.{served-promised}
-use Rattle.fleet.proofs.Pairs.{count-is}
+use Rattle.fleet.proofs.Triples.{count-is}
 use borrow.Author.Needs.{needs}
 use Rattle.fleet.proofs.numbers.round_numbers.Statement.{statement}
 use Rattle.fleet.proofs.numbers.round_numbers.Tie as tie

@@ -62,7 +62,7 @@ returns-2 c =
     simp (told-course k .read, sym (c .before .is-adrift .ensures) ∙ c .if1 .taken)
 
 is-at-start-requires : tie.Need-is-at-start-requires
-is-at-start-requires c κs = is-read (c .before .before)
+is-at-start-requires c κs = search needs
 
 returns-3 : tie.Need-returns-3
 unfolding backed
@@ -73,7 +73,7 @@ returns-3 c =
 moved-back-requires : tie.Need-moved-back-requires
 moved-back-requires c κs =
     let f = c .before .before in
-    (is-read (f .before .before), fits f)
+    (is-read (f .before .before), (fits f, sym (c .before .is-at-start .ensures) ∙ c .if2 .left))
 
 returns-4 : tie.Need-returns-4
 unfolding backed

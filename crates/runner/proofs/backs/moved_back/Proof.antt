@@ -5,10 +5,12 @@ use Prim.Native.Nat.{ℕ, _-_}
 use native.Mathlib.Omega.{arith}
 use borrow.Author.Needs.{needs}
 use borrow.Author.Tests.{lt-ltb, le-ltb}
+use Rattle.runner.specs.Ticks.{atLap}
 use Rattle.runner.specs.Backs.{lastTick, movedBack}
 use Rattle.runner.specs.declared.Runner.{Runner}
 use Rattle.runner.proofs.Room.{room}
 use Rattle.runner.proofs.Standing.{standing, leg-below}
+use Rattle.runner.proofs.Backward.{some-laps}
 use Rattle.runner.proofs.backs.moved_back.Statement.{statement}
 use Rattle.runner.proofs.backs.moved_back.Tie as tie
 
@@ -18,8 +20,8 @@ S c = c .args .s .now
 abbrev R : tie.Start → Runner
 R c = c .args .at
 
-sub-t8 : tie.Need-sub-t8
-sub-t8 c = search needs
+sub-t9 : tie.Need-sub-t9
+sub-t9 c = search needs
 
 returns : tie.Need-returns
 unfolding movedBack
@@ -31,7 +33,7 @@ sub-last-tick c = search needs
 last-tick-requires : tie.Need-last-tick-requires
 last-tick-requires c κs =
     let e = c .before .before .before in
-    let below = leg-below (S e) (R e) (standing (S e) (R e) (e .pre .1)) in
+    let below = leg-below (S e) (R e) (standing (S e) (R e) (e .pre .1 .0)) in
     (e .pre .0, omega (arith, e .pre .0 .is-legs))
 
 returns-2 : tie.Need-returns-2
@@ -43,6 +45,9 @@ returns-2 c =
 sub-last-tick-2 : tie.Need-sub-last-tick-2
 sub-last-tick-2 c = let e = c .before .before .before in let r = room _ _ _ (e .pre .0) in omega arith
 
+sub-last-tick-3 : tie.Need-sub-last-tick-3
+sub-last-tick-3 c = let e = c .before .before .before in some-laps (R e) (e .pre .1 .1) (omega arith) (omega arith)
+
 last-tick-requires-2 : tie.Need-last-tick-requires-2
 last-tick-requires-2 c κs = let e = c .before .before .before in let r = room _ _ _ (e .pre .0) in (e .pre .0, omega arith)
 
@@ -51,10 +56,10 @@ unfolding movedBack
 returns-3 c =
     let e = c .before .before .before .before in
     c .last-tick2 .ensures
-    ∙ ap (λ l. lastTick (S e) (l - 1)) (e .pre .0 .is-legs)
+    ∙ ap (λ l. atLap (R e .laps - 1) (lastTick (S e) (l - 1))) (e .pre .0 .is-legs)
     ∙ simp (le-ltb 0 (R e .offset) (omega arith), le-ltb 0 (R e .leg) (omega arith))
 
 pub moved-back-spec : {M : Type 1} → statement M
 moved-back-spec =
     tie.close
-    (tie.spec sub-t8 returns sub-last-tick last-tick-requires returns-2 sub-last-tick-2 last-tick-requires-2 returns-3)
+    (tie.spec sub-t9 returns sub-last-tick last-tick-requires returns-2 sub-last-tick-2 sub-last-tick-3 last-tick-requires-2 returns-3)

@@ -1,47 +1,31 @@
--- `runner::steps::is_adrift` meets its contract: each way out is the definition with the tests passed on the way put in.
-use mathlib.Core.Path.{_≡_, sym, ap, _∙_}
-use mathlib.Core.Bool.{not}
-use native.Mathlib.Omega.{arith}
-use borrow.Author.Tests.{lt-ltb, le-ltb}
-use Rattle.sheet.specs.Fields.{legs, leg}
+-- `runner::steps::is_adrift` meets its contract: off the legs, by `is_off_legs`, or a lap on an open course.
+use mathlib.Core.Path.{_≡_, refl, sym, ap, _∙_}
+use mathlib.Core.Bool.{true, false, _&&_, _||_}
+use lib.Dec.{ltb}
+use Rattle.integers.proofs.Tried.{Tried, tried}
+use Rattle.runner.specs.Ticks.{isOpen}
 use Rattle.runner.specs.Steps.{adrift}
-use Rattle.runner.proofs.Room.{room}
-use Rattle.runner.proofs.Standing.{on-leg, not-adrift}
 use borrow.Author.Needs.{needs}
 use Rattle.runner.proofs.steps.is_adrift.Statement.{statement}
 use Rattle.runner.proofs.steps.is_adrift.Tie as tie
 
+is-off-legs-requires : tie.Need-is-off-legs-requires
+is-off-legs-requires c κs = search needs
+
+is-open-requires : tie.Need-is-open-requires
+is-open-requires c κs = search needs
+
+-- tried on an open course, at lap 1
+lap-tried : (c : tie.After-struct-known) → let e = c .before .before .before .before in adrift (e .args .s .now) (e .args .at) ≡ true
+    → c .before .before .is-off-legs .result ≡ false → c .before .is-open .result ≡ true → e .args .at .laps ≡ 1 → Tried
+lap-tried c f off o l = tried (λ (need : tie.Need-returns). need c) (_∙_ {b = true} (simp (off, o, l) refl) (sym f))
+
 returns : tie.Need-returns
 unfolding adrift
 returns c =
-    let e = c .before .before .before in
-    simp (le-ltb (e .args .at .leg) (legs (e .args .s .now)) (omega arith))
-
-leg-length-requires : tie.Need-leg-length-requires
-leg-length-requires c κs = let r = room _ _ _ (c .before .before .before .pre) in omega arith
-
--- tried at the full length, 4, of a leg: not below it
-full-tried : (c : tie.Then2) → c .before .before .before .before .before .before .args .at .offset ≡ 4 → c .before .before .leg-length .result ≡ 4 → ⊥
-full-tried c u h = omega arith
-
-returns-2 : tie.Need-returns-2
-returns-2 c =
-    let e = c .before .before .before .before .before .before in
-    let h = c .before .before .leg-length .ensures in
-    sym (not-adrift (e .args .s .now) (e .args .at) (on-leg (omega arith) (omega arith)))
-
-is-landed-requires : tie.Need-is-landed-requires
-is-landed-requires c κs = search needs
-
-returns-3 : tie.Need-returns-3
-unfolding adrift
-returns-3 c =
-    let e = c .before .before .before .before .before .before .before in
-    let l = e .args .at .leg in
-    let s = e .args .s .now in
-    let h = c .before .before .before .leg-length .ensures in
-    ap not (c .is-landed .ensures) ∙ simp (lt-ltb l (legs s) (omega arith), le-ltb (e .args .at .offset) (leg s l) (omega arith))
+    let e = c .before .before .before .before in
+    let open-ended = c .before .is-open .ensures ∙ ap isOpen (e .pre .is-kind) in
+    λ i. c .before .before .is-off-legs .ensures i || open-ended i && ltb 0 (e .args .at .laps)
 
 pub is-adrift-spec : {M : Type 1} → statement M
-is-adrift-spec =
-    tie.close (tie.spec returns leg-length-requires returns-2 is-landed-requires returns-3)
+is-adrift-spec = tie.close (tie.spec is-off-legs-requires is-open-requires returns)

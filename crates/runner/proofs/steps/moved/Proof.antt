@@ -11,7 +11,7 @@ use Rattle.ends.specs.declared.EndKind.{EndKind}
 use Rattle.sheet.proofs.Laws.{accepted-bounds}
 use Rattle.sheet.specs.Fields.{legs, leg}
 use Rattle.integers.proofs.Tried.{Tried, tried}
-use Rattle.runner.specs.Ticks.{runner}
+use Rattle.runner.specs.Ticks.{runner, atLap}
 use Rattle.runner.specs.Steps.{lastStep, moved}
 use Rattle.runner.specs.declared.Runner.{Runner}
 use Rattle.runner.proofs.Room.{room}
@@ -41,8 +41,8 @@ going c =
       short = accepted-bounds (S c) (c .pre .0 .accepted) .leg-high (c .args .at .leg) on;
     }
 
-next-offset : (c : tie.Start) → runner (c .args .at .leg) (c .args .at .offset + 1) ≡ runner (c .args .at .leg) (suc (c .args .at .offset))
-next-offset c = ap (runner (c .args .at .leg)) (add-one (c .args .at .offset))
+next-offset : (c : tie.Start) → let r = c .args .at in atLap (r .laps) (runner (r .leg) (r .offset + 1)) ≡ atLap (r .laps) (runner (r .leg) (suc (r .offset)))
+next-offset c = let r = c .args .at in ap (λ u. atLap (r .laps) (runner (r .leg) u)) (add-one (r .offset))
 
 -- the last tick of the last leg, at a kind that the match has told
 past-last : (c : tie.Else2) (k : EndKind) → c .before .before .before .before .before .args .kind ≡ k
@@ -60,9 +60,9 @@ add-next c = let g = going (c .before .before) in record { fits = omega arith }
 leg-length-requires : tie.Need-leg-length-requires
 leg-length-requires c κs = let g = going (c .before .before) in let r = room _ _ _ (c .before .before .pre .0) in omega arith
 
--- tried at offset 1 on the first leg: to offset 2
-step-tried : (c : tie.Then1) → let e = c .before .before .before .before in moved (S e) (R e) ≡ runner 0 2 → e .args .at .leg ≡ 0 → e .args .at .offset ≡ 1 → Tried
-step-tried c m l u = tried (λ (need : tie.Need-returns). need c) (_∙_ {b = runner 0 2} (simp (l, u) refl) (sym m))
+-- tried at the first waypoint: to offset 1, and no lap is added on leaving it
+step-tried : (c : tie.Then1) → let e = c .before .before .before .before in moved (S e) (R e) ≡ runner 0 1 → e .args .at .leg ≡ 0 → e .args .at .offset ≡ 0 → e .args .at .laps ≡ 0 → Tried
+step-tried c m l u n = tried (λ (need : tie.Need-returns). need c) (_∙_ {b = runner 0 1} (simp (l, u, n) refl) (sym m))
 
 returns : tie.Need-returns
 unfolding moved
@@ -74,15 +74,15 @@ returns c =
 add-if2 : tie.Need-add-if2
 add-if2 c = let e = c .before .before .before .before in let g = going e in let r = room _ _ _ (e .pre .0) in record { fits = omega arith }
 
-add-t11 : tie.Need-add-t11
-add-t11 c = search needs
+add-t12 : tie.Need-add-t12
+add-t12 c = search needs
 
 returns-2 : tie.Need-returns-2
 unfolding moved
 returns-2 c =
     let e = c .before .before .before .before .before in
     let h = c .before .before .leg-length .ensures in
-    ap (λ i. runner i 0) (add-one (e .args .at .leg))
+    ap (λ i. atLap (e .args .at .laps) (runner i 0)) (add-one (e .args .at .leg))
     ∙ simp (le-ltb (suc (e .args .at .offset)) (leg (S e) (e .args .at .leg)) (omega arith), lt-ltb (suc (e .args .at .leg)) (legs (S e)) (omega (arith, e .pre .0 .is-legs)))
 
 enum-told : tie.Need-enum-told
@@ -94,18 +94,22 @@ enum-told-2 c = search needs
 enum-told-3 : tie.Need-enum-told-3
 enum-told-3 c = search needs
 
+next-lap-requires : tie.Need-next-lap-requires
+next-lap-requires c κs = search needs
+
 returns-3 : tie.Need-returns-3
 returns-3 c = let k = c .before .before in next-offset (k .before .before .before .before .before) ∙ past-last k _ (c .enum-told .given .1)
 
 returns-4 : tie.Need-returns-4
 returns-4 c = let k = c .before .before in next-offset (k .before .before .before .before .before) ∙ past-last k _ (c .enum-told2 .given .1)
 
--- tried at the last tick of a closed course, leg 2 and offset 3: round to the first waypoint
-round-tried : (c : tie.After-enum-told3) → let e = c .before .before .before .before .before .before .before in R e ≡ runner 2 3 → moved (S e) (runner 2 3) ≡ runner 0 0 → Tried
-round-tried c r m = tried (λ (need : tie.Need-returns-5). need c) (simp (r, m) refl)
+-- tried at the last tick of a closed course, leg 2 and offset 3: round to the first waypoint, a lap flown
+round-tried : (c : tie.After-next-lap) → let e = c .before .before .before .before .before .before .before .before in R e ≡ runner 2 3 → moved (S e) (runner 2 3) ≡ atLap 1 (runner 0 0)
+    → c .next-lap .result ≡ 1 → Tried
+round-tried c r m n = tried (λ (need : tie.Need-returns-5). need c) (simp (r, m, n) refl)
 
 returns-5 : tie.Need-returns-5
-returns-5 c = past-last (c .before .before) _ (c .enum-told3 .given .1)
+returns-5 c = ap (λ l. atLap l (runner 0 0)) (c .next-lap .ensures) ∙ past-last (c .before .before .before) _ (c .before .enum-told3 .given .1)
 
 pub moved-spec : {M : Type 1} → statement M
-moved-spec = tie.close (tie.spec add-next leg-length-requires returns add-if2 add-t11 returns-2 enum-told enum-told-2 enum-told-3 returns-3 returns-4 returns-5)
+moved-spec = tie.close (tie.spec add-next leg-length-requires returns add-if2 add-t12 returns-2 enum-told enum-told-2 enum-told-3 next-lap-requires returns-3 returns-4 returns-5)
