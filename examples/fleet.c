@@ -64,6 +64,15 @@ static uint64_t fly(const struct station_course *course)
     return STATION_DONE;
 }
 
+/* How often each drone has been round (M10). */
+static void tell_laps(void)
+{
+    printf("laps flown:");
+    for (uint64_t seat = 0; seat < SEATS; seat++)
+        printf(" %" PRIu64, fleet[seat].laps);
+    printf("\n");
+}
+
 int main(int argc, char **argv)
 {
     struct station_course course = {0, 0, 0};
@@ -86,5 +95,6 @@ int main(int argc, char **argv)
         printf("the sheet: refused %" PRIu64 " %s\n", answer, station_word(answer));
         return 1;
     }
+    tell_laps();
     return 0;
 }

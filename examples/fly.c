@@ -56,7 +56,8 @@ static uint64_t fly_by_tick(const struct station_course *course)
     return STATION_DONE;
 }
 
-/* The same places by a runner that is moved on from the first waypoint; counts the ticks at which both agree. */
+/* The same places by a runner that is moved on from the first waypoint; counts the ticks at which both agree. On a closed course that is a
+ * lap (M10). */
 static uint64_t fly_by_runner(const struct station_course *course, struct station_runner *runner)
 {
     uint64_t same = 0;
@@ -74,6 +75,7 @@ static uint64_t fly_by_runner(const struct station_course *course, struct statio
             same += 1;
     }
     printf("by runner: %" PRIu64 " of %" PRIu64 " places the same\n", same, course->ticks + 1);
+    printf("laps flown: %" PRIu64 "\n", runner->laps);
     return STATION_DONE;
 }
 
@@ -100,12 +102,13 @@ static uint64_t come_again(struct station_runner *runner)
     return answer;
 }
 
-/* Calls that an open course refuses: a step or a tick past its end, a tick back from its start; and a sheet that nobody accepts. */
+/* Calls that are refused: a step or a tick past an open course's end; a tick back from the start of any course, with no lap flown; and a
+ * sheet that nobody accepts. */
 static void show_refusals(const struct station_course *course, struct station_runner *runner)
 {
     struct station_place place;
     struct station_course other;
-    struct station_runner first = {0, 0};
+    struct station_runner first = {0, 0, 0};
     tell("one step more", station_step_runner(sheet, sheet_length, runner));
     tell("one tick more", station_place_at_tick_into(sheet, sheet_length, list, STATION_LONGEST_LIST, course->ticks + 1, &place));
     tell("back from the start", station_back_runner(sheet, sheet_length, &first));
@@ -118,7 +121,7 @@ int main(int argc, char **argv)
 {
     static const char *const kinds[] = {"free", "held", "closed"};
     struct station_course course = {0, 0, 0};
-    struct station_runner runner = {0, 0};
+    struct station_runner runner = {0, 0, 0};
 
     if (argc > 2) {
         fprintf(stderr, "usage: fly [FILE]\n");

@@ -23,8 +23,8 @@
  * [measured]
  *   format:           elf64-x86-64, for Linux (System V calls)
  *   outside symbols:  memset
- *   code:             10599 bytes with constants, data 0, zeroed data 0
- *   deepest stack:    7816 bytes (read 305, lay_out 384, place_at_tick 385, place_of_runner 401, runner_at_tick 321, step 321, back 322, write 56, join 369, round 385, strokes 7816)
+ *   code:             11057 bytes with constants, data 0, zeroed data 0
+ *   deepest stack:    7816 bytes (read 305, lay_out 384, place_at_tick 385, place_of_runner 417, runner_at_tick 321, step 321, back 321, write 56, join 369, round 385, strokes 7816)
  * [/measured]
  */
 #ifndef STATION_H
@@ -37,11 +37,14 @@
  * added. MINOR moves as well where a refusal gets another limit: a correct caller handles its number already; and where the same calls come
  * to other figures within their clauses, as in 1.5 by the rounding of halves (L4): bend numbers that an earlier version laid out are not
  * this one's own (C1), so lay out again. PATCH moves where every answer stays and only time or words move, as in 1.5.1 by how a tick's leg
- * is found (P7). */
-#define STATION_VERSION_MAJOR 1
-#define STATION_VERSION_MINOR 7
+ * is found (P7).
+ *
+ * From 1.x to 2.0: a runner is three numbers, the third its laps flown, in every record, in a fleet and as arguments; a runner of two
+ * numbers becomes one with 0 laps. A back at a closed course's first waypoint takes a lap off, and without one it is refused with 15. */
+#define STATION_VERSION_MAJOR 2
+#define STATION_VERSION_MINOR 0
 #define STATION_VERSION_PATCH 0
-#define STATION_VERSION "1.7.0"
+#define STATION_VERSION "2.0.0"
 
 /* Asks gcc and clang to warn where an answer is dropped or a null pointer is handed over; nothing to other compilers. */
 #if defined(__GNUC__)
@@ -67,11 +70,11 @@ enum {
     STATION_SLOPE = 8,    /* N8: a slope over 5,000 mm per tick in size */
     STATION_SHELF = 9,    /* N9: the list is shorter than 3N */
     STATION_PAST = 10,    /* N10: the tick is over P, on an open course */
-    STATION_ADRIFT = 11,  /* N11: no such leg, or the offset is beyond it */
+    STATION_ADRIFT = 11,  /* N11: no such leg, or the offset is beyond it, or laps on an open course */
     STATION_BEND = 12,    /* N12: at an end of the leg, a bend number over 2^37 in size */
     STATION_LANDED = 13,  /* N13: the runner has come to the end of an open course */
     STATION_PAGE = 14,    /* N14: the slice is shorter than the sheet to be written into it */
-    STATION_START = 15,   /* N15: the runner stands at the first tick of an open course */
+    STATION_START = 15,   /* N15: the runner stands at the first waypoint with no lap flown */
     STATION_SHUT = 16,    /* N16: one of the two sheets to be joined is not free-ended */
     STATION_APART = 17,   /* N17: the first sheet's last waypoint is not the second's first, on some axis */
     STATION_CROWDED = 18, /* N18: the joined course would have over 512 waypoints */
@@ -105,19 +108,24 @@ STATION_CHECKED uint64_t station_lay_out(const uint8_t *sheet, size_t sheet_leng
 STATION_CHECKED uint64_t station_place_at_tick(const uint8_t *sheet, size_t sheet_length, const int64_t *list, size_t list_length,
                                                uint64_t tick, int64_t *out, size_t out_length);
 
-/* The place of a runner, legs counted from 0 (M1). Tests 1-9, 11, 12 (A5). Results: north, east, up. */
-STATION_CHECKED uint64_t station_place_of_runner(const uint8_t *sheet, size_t sheet_length, const int64_t *list, size_t list_length,
-                                                 uint64_t leg, uint64_t offset, int64_t *out, size_t out_length);
+/* A runner is a leg, counted from 0, an offset in ticks, and the laps that it has flown (M1): on an open course none, else it is adrift
+ * (N11), on a closed one any number (M10). */
 
-/* The runner that stands at a tick. Tests 1-8 and 10 (A6). Results: leg, offset. It takes about the same time at every tick of a course,
- * and that time goes with N, since each call tests the whole sheet (P7). */
+/* The place of a runner, which its laps do not change. Tests 1-9, 11, 12 (A5). Results: north, east, up. */
+STATION_CHECKED uint64_t station_place_of_runner(const uint8_t *sheet, size_t sheet_length, const int64_t *list, size_t list_length,
+                                                 uint64_t leg, uint64_t offset, uint64_t laps, int64_t *out, size_t out_length);
+
+/* The runner that stands at a tick. Tests 1-8 and 10 (A6). Results: leg, offset, laps: on a closed course tick / P, rounded down, else 0
+ * (M10). It takes about the same time at every tick of a course, and that time goes with N, since each call tests the whole sheet (P7). */
 STATION_CHECKED uint64_t station_runner_at_tick(const uint8_t *sheet, size_t sheet_length, uint64_t tick, uint64_t *out, size_t out_length);
 
-/* Moves a runner (leg, offset) on by a tick where it lies (M2). Tests 1-8, 11, 13 (A7). Fewer than two numbers are no runner: 11. */
+/* Moves a runner (leg, offset, laps) on by a tick where it lies (M2). A step to the first waypoint of a closed course adds a lap; 2^64 - 1
+ * laps, the most, stay as many (M10). Tests 1-8, 11, 13 (A7). Fewer than three numbers are no runner: 11. */
 STATION_CHECKED uint64_t station_step(const uint8_t *sheet, size_t sheet_length, uint64_t *runner, size_t runner_length);
 
-/* Moves a runner (leg, offset) back by a tick where it lies (M6), so that it undoes a step, and a step undoes it (M8). Tests 1-8, 11, 15
- * (A12). Fewer than two numbers are no runner: 11. */
+/* Moves a runner (leg, offset, laps) back by a tick where it lies (M6), from the first waypoint of a closed course by taking a lap off; so
+ * that it undoes a step, and a step undoes it, but for a step to the first waypoint that found the most laps and kept them (M8). Tests 1-8,
+ * 11, 15 (A12). Fewer than three numbers are no runner: 11. */
 STATION_CHECKED uint64_t station_back(const uint8_t *sheet, size_t sheet_length, uint64_t *runner, size_t runner_length);
 
 /* Writes a sheet at the front of the slice `sheet`, whose bytes behind it stay, from lists in the sheet's order (G1): the legs; north, east
@@ -137,13 +145,14 @@ STATION_CHECKED uint64_t station_write(uint64_t kind, const uint64_t *legs, size
 STATION_CHECKED uint64_t station_join(const uint8_t *first, size_t first_length, const uint8_t *second, size_t second_length,
                                       uint8_t *sheet, size_t sheet_length, uint64_t *out, size_t out_length);
 
-/* Serves one seat of a fleet of drones on one course, the seat whose turn it is (Q1): moves its runner on by a tick where it lies and tells
- * where that brings it (Q2). fleet has leg and offset of each seat in turn; there are k = fleet_length / 2 seats, rounded down, and an odd
- * number at the end belongs to none. Tests 1-9, 19, 20, then of this seat 11, 13 and, at the leg on which it stands after the step, 12, in
- * this order (A14). Results: north, east, up into place; the next turn into next, which is turn + 1, or 0 after the last seat. A seat that
- * is refused (11, 13, 12) keeps its record, and its number comes with the next turn in next, without a place; with the other numbers
- * nothing comes (Q3). The other seats' records stay as they were (Q4). Where place or next is too short, the record is moved on all the
- * same. With each turn handed on as it came back, any k calls in a row that 1-9, 19 and 20 do not refuse serve each seat once (Q5). */
+/* Serves one seat of a fleet of drones on one course, the seat whose turn it is (Q1): moves its runner on by a tick where it lies, as a
+ * step does, and tells where that brings it (Q2). fleet has leg, offset and laps of each seat in turn; there are k = fleet_length / 3
+ * seats, rounded down, and one or two numbers left over belong to none. Tests 1-9, 19, 20, then of this seat 11, 13 and, at the leg on
+ * which it stands after the step, 12, in this order (A14). Results: north, east, up into place; the next turn into next, which is turn + 1,
+ * or 0 after the last seat. A seat that is refused (11, 13, 12) keeps its record, and its number comes with the next turn in next, without
+ * a place; with the other numbers nothing comes (Q3). The other seats' records stay as they were (Q4). Where place or next is too short,
+ * the record is moved on all the same. With each turn handed on as it came back, any k calls in a row that 1-9, 19 and 20 do not refuse
+ * serve each seat once (Q5). */
 STATION_CHECKED uint64_t station_round(const uint8_t *sheet, size_t sheet_length, const int64_t *list, size_t list_length, uint64_t *fleet,
                                        size_t fleet_length, uint64_t turn, int64_t *place, size_t place_length, uint64_t *next,
                                        size_t next_length);
@@ -172,10 +181,11 @@ struct station_place {
 
 struct station_runner {
     uint64_t leg, offset;
+    uint64_t laps; /* laps flown; 0 on an open course */
 };
 
-/* An array of runners is a fleet's numbers as they lie: does not compile where a runner is more than its two. */
-typedef char station_runner_is_two_numbers[sizeof(struct station_runner) == 2 * sizeof(uint64_t) ? 1 : -1];
+/* An array of runners is a fleet's numbers as they lie: does not compile where a runner is more than its three. */
+typedef char station_runner_is_three_numbers[sizeof(struct station_runner) == 3 * sizeof(uint64_t) ? 1 : -1];
 
 /* What a sheet is written from (G1). A list of no elements may have a null pointer here. */
 struct station_lists {
@@ -221,7 +231,7 @@ STATION_CHECKED static inline uint64_t station_place_of_runner_into(const uint8_
                                                                     struct station_place *place)
 {
     int64_t out[3] = {0, 0, 0};
-    uint64_t answer = station_place_of_runner(sheet, sheet_length, list, list_length, runner.leg, runner.offset, out, 3);
+    uint64_t answer = station_place_of_runner(sheet, sheet_length, list, list_length, runner.leg, runner.offset, runner.laps, out, 3);
     if (answer == STATION_DONE) {
         place->north = out[0];
         place->east = out[1];
@@ -234,11 +244,12 @@ STATION_CHECKED static inline uint64_t station_place_of_runner_into(const uint8_
 STATION_CHECKED static inline uint64_t station_runner_at_tick_into(const uint8_t *sheet, size_t sheet_length, uint64_t tick,
                                                                    struct station_runner *runner)
 {
-    uint64_t out[2] = {0, 0};
-    uint64_t answer = station_runner_at_tick(sheet, sheet_length, tick, out, 2);
+    uint64_t out[3] = {0, 0, 0};
+    uint64_t answer = station_runner_at_tick(sheet, sheet_length, tick, out, 3);
     if (answer == STATION_DONE) {
         runner->leg = out[0];
         runner->offset = out[1];
+        runner->laps = out[2];
     }
     return answer;
 }
@@ -246,11 +257,12 @@ STATION_CHECKED static inline uint64_t station_runner_at_tick_into(const uint8_t
 /* station_step, on a struct. */
 STATION_CHECKED static inline uint64_t station_step_runner(const uint8_t *sheet, size_t sheet_length, struct station_runner *runner)
 {
-    uint64_t record[2] = {runner->leg, runner->offset};
-    uint64_t answer = station_step(sheet, sheet_length, record, 2);
+    uint64_t record[3] = {runner->leg, runner->offset, runner->laps};
+    uint64_t answer = station_step(sheet, sheet_length, record, 3);
     if (answer == STATION_DONE) {
         runner->leg = record[0];
         runner->offset = record[1];
+        runner->laps = record[2];
     }
     return answer;
 }
@@ -258,11 +270,12 @@ STATION_CHECKED static inline uint64_t station_step_runner(const uint8_t *sheet,
 /* station_back, on a struct. */
 STATION_CHECKED static inline uint64_t station_back_runner(const uint8_t *sheet, size_t sheet_length, struct station_runner *runner)
 {
-    uint64_t record[2] = {runner->leg, runner->offset};
-    uint64_t answer = station_back(sheet, sheet_length, record, 2);
+    uint64_t record[3] = {runner->leg, runner->offset, runner->laps};
+    uint64_t answer = station_back(sheet, sheet_length, record, 3);
     if (answer == STATION_DONE) {
         runner->leg = record[0];
         runner->offset = record[1];
+        runner->laps = record[2];
     }
     return answer;
 }
@@ -304,7 +317,7 @@ STATION_CHECKED static inline uint64_t station_round_fleet(const uint8_t *sheet,
 {
     int64_t out[3] = {0, 0, 0};
     uint64_t next[1] = {*turn};
-    uint64_t answer = station_round(sheet, sheet_length, list, list_length, &fleet->leg, 2 * seats, *turn, out, 3, next, 1);
+    uint64_t answer = station_round(sheet, sheet_length, list, list_length, &fleet->leg, 3 * seats, *turn, out, 3, next, 1);
     *turn = next[0];
     if (answer == STATION_DONE) {
         place->north = out[0];

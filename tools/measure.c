@@ -21,7 +21,7 @@ static int64_t waypoints[3 * 512], slopes[6];
 static struct station_lists lists = {0, legs, 0, waypoints, 0, slopes, 0};
 static uint8_t page[STATION_LONGEST_SHEET];
 static int64_t list[STATION_LONGEST_LIST];
-static uint64_t tick, words[3], fleet[2 * STATION_MOST_SEATS];
+static uint64_t tick, words[3], fleet[3 * STATION_MOST_SEATS];
 static int64_t place[3], tolerance;
 static uint64_t ends[STATION_MOST_STROKE_ENDS];
 static size_t ends_length;
@@ -35,7 +35,7 @@ struct calls {
     uint64_t (*read)(const uint8_t *, size_t, uint64_t *, size_t);
     uint64_t (*lay_out)(const uint8_t *, size_t, int64_t *, size_t);
     uint64_t (*place_at_tick)(const uint8_t *, size_t, const int64_t *, size_t, uint64_t, int64_t *, size_t);
-    uint64_t (*place_of_runner)(const uint8_t *, size_t, const int64_t *, size_t, uint64_t, uint64_t, int64_t *, size_t);
+    uint64_t (*place_of_runner)(const uint8_t *, size_t, const int64_t *, size_t, uint64_t, uint64_t, uint64_t, int64_t *, size_t);
     uint64_t (*runner_at_tick)(const uint8_t *, size_t, uint64_t, uint64_t *, size_t);
     uint64_t (*step)(const uint8_t *, size_t, uint64_t *, size_t);
     uint64_t (*back)(const uint8_t *, size_t, uint64_t *, size_t);
@@ -66,9 +66,10 @@ static uint64_t no_place_at_tick(const uint8_t *s, size_t n, const int64_t *l, s
     return (void)s, (void)n, (void)l, (void)k, (void)t, (void)out, (void)m, 0;
 }
 
-static uint64_t no_place_of_runner(const uint8_t *s, size_t n, const int64_t *l, size_t k, uint64_t a, uint64_t b, int64_t *out, size_t m)
+static uint64_t no_place_of_runner(const uint8_t *s, size_t n, const int64_t *l, size_t k, uint64_t a, uint64_t b, uint64_t c, int64_t *out,
+                                   size_t m)
 {
-    return (void)s, (void)n, (void)l, (void)k, (void)a, (void)b, (void)out, (void)m, 0;
+    return (void)s, (void)n, (void)l, (void)k, (void)a, (void)b, (void)c, (void)out, (void)m, 0;
 }
 
 static uint64_t no_runner_at_tick(const uint8_t *s, size_t n, uint64_t t, uint64_t *out, size_t m)
@@ -123,16 +124,16 @@ static void make_call(void)
         answer = c->place_at_tick(sheet, sheet_length, list, STATION_LONGEST_LIST, tick, place, 3);
         break;
     case 3:
-        answer = c->place_of_runner(sheet, sheet_length, list, STATION_LONGEST_LIST, words[0], words[1], place, 3);
+        answer = c->place_of_runner(sheet, sheet_length, list, STATION_LONGEST_LIST, words[0], words[1], words[2], place, 3);
         break;
     case 4:
         answer = c->runner_at_tick(sheet, sheet_length, tick, words, 3);
         break;
     case 5:
-        answer = c->step(sheet, sheet_length, words, 2);
+        answer = c->step(sheet, sheet_length, words, 3);
         break;
     case 6:
-        answer = c->back(sheet, sheet_length, words, 2);
+        answer = c->back(sheet, sheet_length, words, 3);
         break;
     case 7:
         answer = c->write(lists.kind, lists.legs, lists.legs_length, lists.waypoints, lists.waypoints_length, lists.slopes,
@@ -142,7 +143,7 @@ static void make_call(void)
         answer = c->join(sheet, sheet_length, second, second_length, page, sizeof page, words, 1);
         break;
     case ROUND:
-        answer = c->round(sheet, sheet_length, list, STATION_LONGEST_LIST, fleet, 2 * STATION_MOST_SEATS, STATION_MOST_SEATS - 1, place, 3,
+        answer = c->round(sheet, sheet_length, list, STATION_LONGEST_LIST, fleet, 3 * STATION_MOST_SEATS, STATION_MOST_SEATS - 1, place, 3,
                           words, 1);
         break;
     default:
@@ -171,14 +172,16 @@ static size_t untouched(const struct calls *which, uint8_t paint)
 }
 
 /* Makes one call on what is in place, at a tick and of a runner, and keeps its deepest; the answer has to be `wanted`. */
-static void measure_call(int i, uint64_t at, uint64_t leg, uint64_t offset, uint64_t wanted)
+static void measure_call(int i, uint64_t at, struct station_runner runner, uint64_t wanted)
 {
     static const uint8_t paints[] = {0xa5, 0x5a};
+    uint64_t *seat = fleet + 3 * (STATION_MOST_SEATS - 1);
     for (size_t p = 0; p < sizeof paints; p++) {
         call = i;
         tick = at;
-        words[0] = fleet[2 * STATION_MOST_SEATS - 2] = leg;
-        words[1] = fleet[2 * STATION_MOST_SEATS - 1] = offset;
+        words[0] = seat[0] = runner.leg;
+        words[1] = seat[1] = runner.offset;
+        words[2] = seat[2] = runner.laps;
         size_t empty = untouched(&nothing, paints[p]);
         size_t full = untouched(&library, paints[p]);
         if (answer != wanted || full == 0 || full > empty) {
@@ -192,28 +195,38 @@ static void measure_call(int i, uint64_t at, uint64_t leg, uint64_t offset, uint
     }
 }
 
+static const struct station_runner first = {0, 0, 0}, second_tick = {0, 1, 0};
+
 /* Strokes of the sheet in place at a tolerance: with room for the most ends, for just as many as there are, and for one less, which is
  * refused. */
 static void measure_strokes(int64_t millimetres, uint64_t wanted)
 {
     tolerance = millimetres;
     ends_length = STATION_MOST_STROKE_ENDS;
-    measure_call(STROKES, 0, 0, 0, wanted);
+    measure_call(STROKES, 0, first, wanted);
     if (wanted != STATION_DONE)
         return;
     ends_length = (size_t)words[0];
-    measure_call(STROKES, 0, 0, 0, STATION_DONE);
+    measure_call(STROKES, 0, first, STATION_DONE);
     ends_length--;
-    measure_call(STROKES, 0, 0, 0, STATION_INK);
+    measure_call(STROKES, 0, first, STATION_INK);
 }
 
 /* All calls but the joining and the strokes, which have one answer on the sheet and lists that are in place; of a fleet the last seat is
  * served. */
-static void measure(uint64_t at, uint64_t leg, uint64_t offset, uint64_t wanted)
+static void measure(uint64_t at, struct station_runner runner, uint64_t wanted)
 {
     for (int i = 0; i < JOIN; i++)
-        measure_call(i, at, leg, offset, wanted);
-    measure_call(ROUND, at, leg, offset, wanted);
+        measure_call(i, at, runner, wanted);
+    measure_call(ROUND, at, runner, wanted);
+}
+
+/* A closed course's runners with laps, on legs of 256, 1 and 2 ticks: back over the first waypoint, on to it, on to it with the most. */
+static void measure_laps(void)
+{
+    static const struct station_runner runners[] = {{0, 0, 1}, {2, 1, 1}, {2, 1, UINT64_MAX}};
+    for (size_t i = 0; i < sizeof runners / sizeof runners[0]; i++)
+        measure(UINT64_MAX - i, runners[i], STATION_DONE);
 }
 
 /* Makes the lists of a course whose waypoints swing between each axis' own limits; answers P. */
@@ -267,7 +280,7 @@ static void measure_join(size_t n, uint64_t kind, size_t m, uint64_t wanted)
     second_length = sheet_length;
     make_lists(STATION_FREE, n);
     make_sheet();
-    measure_call(JOIN, 0, 0, 0, wanted);
+    measure_call(JOIN, 0, first, wanted);
 }
 
 int main(void)
@@ -276,21 +289,21 @@ int main(void)
         uint64_t ticks = make_lists(kind, 512);
         make_sheet();
         for (uint64_t at = 0; at <= ticks; at += ticks / 4)
-            measure(at, 0, 1, STATION_DONE);
+            measure(at, second_tick, STATION_DONE);
         /* at 0 mm each leg of 256 ticks is cut as often as it can be; at 1000 mm many stretches are kept */
         measure_strokes(0, STATION_DONE);
         measure_strokes(1000, STATION_DONE);
         measure_strokes(1001, STATION_GRAIN);
         make_lists(kind, 3);
         make_sheet();
-        measure(1, 0, 1, STATION_DONE);
+        measure(1, second_tick, STATION_DONE);
         /* on to the next leg or to the end, back to the leg before */
-        measure(1, 1, 0, STATION_DONE);
+        measure(1, (struct station_runner){1, 0, 0}, STATION_DONE);
         if (kind == STATION_CLOSED)
-            measure(1, 0, 0, STATION_DONE);
+            measure_laps();
         legs[0] = 0;
         make_sheet();
-        measure(1, 0, 1, STATION_LEG);
+        measure(1, second_tick, STATION_LEG);
         measure_strokes(0, STATION_LEG);
     }
     measure_join(257, STATION_FREE, 256, STATION_DONE);

@@ -46,7 +46,8 @@ fn fly_by_tick(sheet: &[u8], list: &mut [i64]) -> Result<Course, Refusal> {
     Ok(course)
 }
 
-/// The same places by a runner that is moved on from the first waypoint; counts the ticks at which both agree.
+/// The same places by a runner that is moved on from the first waypoint; counts the ticks at which both agree. On a closed course that is a
+/// lap (M10).
 fn fly_by_runner(sheet: &[u8], list: &[i64], course: &Course) -> Result<(Runner, u64), Refusal> {
     let mut runner = station::runner_at_tick(sheet, 0)?;
     let mut same = 0;
@@ -81,6 +82,7 @@ fn fly(sheet: &mut [u8]) -> Result<(), Refusal> {
     let course = fly_by_tick(sheet, &mut list)?;
     let (mut runner, same) = fly_by_runner(sheet, &list, &course)?;
     println!("by runner: {same} of {} places the same", course.ticks + 1);
+    println!("laps flown: {}", runner.laps);
     come_again(sheet, &list, &mut runner)?;
     tell("one step more", station::step(sheet, &mut runner));
     tell("one tick more", station::place_at_tick(sheet, &list, course.ticks + 1));

@@ -15,7 +15,7 @@ pub const MOST_SEATS: usize = 32;
 ///
 /// let mut list = [0; 9];
 /// station::lay_out(&COURSE_A, &mut list)?;
-/// let mut seats = [Runner { leg: 0, offset: 0 }, Runner { leg: 1, offset: 1 }];
+/// let mut seats = [Runner::default(), Runner { leg: 1, offset: 1, laps: 0 }];
 /// let mut fleet = Fleet::new(&mut seats);
 /// assert_eq!(fleet.round(&COURSE_A, &list)?, Place { north: 6, east: 10, up: 21 });
 /// assert_eq!(fleet.round(&COURSE_A, &list)?, Place { north: 0, east: 10, up: 24 });
@@ -23,13 +23,13 @@ pub const MOST_SEATS: usize = 32;
 ///
 /// // the second has landed: its record stays, and the turn goes on to the first
 /// assert_eq!(fleet.round(&COURSE_A, &list), Err(Refusal::Landed));
-/// assert_eq!(fleet.seats()[1], Runner { leg: 1, offset: 2 });
+/// assert_eq!(fleet.seats()[1], Runner { leg: 1, offset: 2, laps: 0 });
 /// assert_eq!(fleet.turn(), 0);
 ///
 /// // no seat is served by a list that is too short: the turn stays
 /// assert_eq!(fleet.round(&COURSE_A, &list[..8]), Err(Refusal::Shelf));
 /// assert_eq!(fleet.turn(), 0);
-/// assert_eq!(seats, [Runner { leg: 1, offset: 0 }, Runner { leg: 1, offset: 2 }]);
+/// assert_eq!(seats, [Runner { leg: 1, offset: 0, laps: 0 }, Runner { leg: 1, offset: 2, laps: 0 }]);
 /// # Ok::<(), station::Refusal>(())
 /// ```
 #[derive(PartialEq, Eq, Debug)]
@@ -58,7 +58,7 @@ impl<'a> Fleet<'a> {
     /// let mut fleet = Fleet::at(&mut seats[..2], 1);
     /// fleet.round(&COURSE_A, &[0; 9])?;
     /// assert_eq!(fleet.turn(), 0);
-    /// assert_eq!(fleet.seats(), [Runner::default(), Runner { leg: 0, offset: 1 }]);
+    /// assert_eq!(fleet.seats(), [Runner::default(), Runner { leg: 0, offset: 1, laps: 0 }]);
     /// # Ok::<(), station::Refusal>(())
     /// ```
     #[inline]
@@ -84,7 +84,7 @@ impl<'a> Fleet<'a> {
     /// these three keeps its record and passes the turn on all the same; after the other refusals the turn stays (Q3). The other seats'
     /// records stay as they were (Q4).
     ///
-    /// On a closed course a runner goes round:
+    /// On a closed course a runner goes round, and the lap is counted (M10):
     ///
     /// ```
     /// use station::{EndKind, Fleet, Place, Runner};
@@ -93,9 +93,9 @@ impl<'a> Fleet<'a> {
     /// let (mut sheet, mut list) = ([0; 64], [0; 12]);
     /// station::write(EndKind::Closed, &[2; 4], &[0, 0, 0, 6, 0, 0, 0, 0, 0, -6, 0, 0], &[], &mut sheet)?;
     /// station::lay_out(&sheet, &mut list)?;
-    /// let mut seats = [Runner { leg: 3, offset: 1 }];
+    /// let mut seats = [Runner { leg: 3, offset: 1, laps: 4 }];
     /// assert_eq!(Fleet::new(&mut seats).round(&sheet, &list)?, Place { north: 0, east: 0, up: 0 });
-    /// assert_eq!(seats, [Runner { leg: 0, offset: 0 }]);
+    /// assert_eq!(seats, [Runner { leg: 0, offset: 0, laps: 5 }]);
     /// # Ok::<(), station::Refusal>(())
     /// ```
     #[inline]

@@ -2,9 +2,9 @@
 //! other crates. N6, A4 and the like are clauses of the repository's `docs/REQUIREMENTS.md`.
 //!
 //! A *sheet* is a course as bytes. [`read`] tells what it holds, [`lay_out`] makes the bend numbers that the places need, and then
-//! [`place_at_tick`] tells where the course is at each tick. A [`Runner`] does the same for a drone that moves on, or back, tick by tick, a
-//! [`Fleet`] for several of them in turn. [`strokes`] cuts the course into straight lines to be drawn. [`write()`] makes a sheet from lists
-//! of numbers, [`join`] one of two. Ten ticks are a second, and lengths are whole millimetres.
+//! [`place_at_tick`] tells where the course is at each tick. A [`Runner`] does the same for a drone that moves on, or back, tick by tick,
+//! and keeps count of its laps, a [`Fleet`] for several of them in turn. [`strokes`] cuts the course into straight lines to be drawn.
+//! [`write()`] makes a sheet from lists of numbers, [`join`] one of two. Ten ticks are a second, and lengths are whole millimetres.
 //!
 //! Every function takes any bytes, lists and numbers (D1). What does not fit is answered with a [`Refusal`], and then nothing that was
 //! lent has changed (A9); a fleet whose seat is refused passes its turn on (Q3).
@@ -36,10 +36,12 @@ mod fleet;
 #[allow(unsafe_code)]
 pub mod raw;
 mod refusal;
+mod runner;
 mod strokes;
 
 pub use fleet::{Fleet, MOST_SEATS};
 pub use refusal::Refusal;
+pub use runner::{Runner, back, place_of_runner, runner_at_tick, step};
 pub use strokes::{MOST_STROKE_ENDS, MOST_TOLERANCE, strokes};
 
 /// How long an accepted sheet can be, in bytes (S9): the size of an array into which every sheet can be written.
@@ -113,17 +115,6 @@ impl From<Place> for [i64; 3] {
     fn from(place: Place) -> [i64; 3] {
         [place.north, place.east, place.up]
     }
-}
-
-/// Where a drone stands on a course (M1). The default is the first waypoint.
-// laid out as in C, so that a fleet's runners are lent as they lie (raw.rs)
-#[derive(Clone, Copy, PartialEq, Eq, Hash, Debug, Default)]
-#[repr(C)]
-pub struct Runner {
-    /// The leg, counted from 0.
-    pub leg: u64,
-    /// The ticks since the leg's start.
-    pub offset: u64,
 }
 
 /// Reads a sheet. Tests 1-8 (A2).
@@ -211,109 +202,6 @@ pub fn place_at_tick(sheet: &[u8], list: &[i64], tick: u64) -> Result<Place, Ref
     let mut out = [0; 3];
     done(raw::place_at_tick(sheet, list, tick, &mut out))?;
     Ok(out.into())
-}
-
-/// The place of a runner, by a list that was laid out for this sheet. Tests 1-9, 11, 12 (A5).
-///
-/// ```
-/// use station::{COURSE_A, Place, Refusal, Runner};
-///
-/// let mut list = [0; 9];
-/// station::lay_out(&COURSE_A, &mut list)?;
-/// let runner = Runner { leg: 1, offset: 1 };
-/// assert_eq!(station::place_of_runner(&COURSE_A, &list, runner)?, Place { north: 6, east: 10, up: 23 });
-/// assert_eq!(station::place_of_runner(&COURSE_A, &list, Runner { leg: 2, offset: 0 }), Err(Refusal::Adrift));
-/// # Ok::<(), station::Refusal>(())
-/// ```
-#[inline]
-pub fn place_of_runner(sheet: &[u8], list: &[i64], runner: Runner) -> Result<Place, Refusal> {
-    let mut out = [0; 3];
-    done(raw::place_of_runner(sheet, list, runner.leg, runner.offset, &mut out))?;
-    Ok(out.into())
-}
-
-/// The runner that stands at a tick. Tests 1-8 and 10 (A6). It takes about the same time at every tick of a course, and that time goes with
-/// N, since each call tests the whole sheet (P7).
-///
-/// ```
-/// use station::{COURSE_A, Runner};
-///
-/// // at tick 2 the second leg starts; the last tick is the full second leg (P3)
-/// assert_eq!(station::runner_at_tick(&COURSE_A, 2)?, Runner { leg: 1, offset: 0 });
-/// assert_eq!(station::runner_at_tick(&COURSE_A, 4)?, Runner { leg: 1, offset: 2 });
-/// # Ok::<(), station::Refusal>(())
-/// ```
-///
-/// On a course with legs of 1, 2, .. 18 ticks, and on the same closed by a leg of 19 (W17):
-///
-/// ```
-/// use station::{EndKind, Refusal, Runner};
-///
-/// let legs: Vec<u64> = (1..=19).collect();
-/// let (mut open, mut closed) = ([0; 272], [0; 274]);
-/// station::write(EndKind::Free, &legs[..18], &[0; 57], &[], &mut open)?;
-/// station::write(EndKind::Closed, &legs, &[0; 57], &[], &mut closed)?;
-///
-/// // 136 is the sum of the first sixteen legs, 153 that of seventeen, 171 that of all eighteen
-/// for (tick, leg, offset) in [(135, 15, 15), (136, 16, 0), (152, 16, 16), (153, 17, 0), (171, 17, 18)] {
-///     assert_eq!(station::runner_at_tick(&open, tick)?, Runner { leg, offset });
-/// }
-/// assert_eq!(station::runner_at_tick(&open, 172), Err(Refusal::Past));
-///
-/// // a lap has 190 ticks
-/// assert_eq!(station::runner_at_tick(&closed, 190)?, Runner { leg: 0, offset: 0 });
-/// assert_eq!(station::runner_at_tick(&closed, 326)?, Runner { leg: 16, offset: 0 });
-/// # Ok::<(), station::Refusal>(())
-/// ```
-#[inline]
-pub fn runner_at_tick(sheet: &[u8], tick: u64) -> Result<Runner, Refusal> {
-    let mut out = [0; 2];
-    done(raw::runner_at_tick(sheet, tick, &mut out))?;
-    Ok(Runner { leg: out[0], offset: out[1] })
-}
-
-/// Moves a runner on by a tick (M2). Tests 1-8, 11, 13 (A7).
-///
-/// ```
-/// use station::{COURSE_A, Refusal, Runner};
-///
-/// // it takes four ticks
-/// let mut runner = Runner::default();
-/// for _ in 0..4 {
-///     station::step(&COURSE_A, &mut runner)?;
-/// }
-/// assert_eq!(station::step(&COURSE_A, &mut runner), Err(Refusal::Landed));
-/// assert_eq!(runner, Runner { leg: 1, offset: 2 });
-/// # Ok::<(), station::Refusal>(())
-/// ```
-#[inline]
-pub fn step(sheet: &[u8], runner: &mut Runner) -> Result<(), Refusal> {
-    let mut record = [runner.leg, runner.offset];
-    done(raw::step(sheet, &mut record))?;
-    *runner = Runner { leg: record[0], offset: record[1] };
-    Ok(())
-}
-
-/// Moves a runner back by a tick (M6), so that it undoes a step, and a step undoes it (M8). Tests 1-8, 11, 15 (A12).
-///
-/// ```
-/// use station::{COURSE_A, Refusal, Runner};
-///
-/// // from the second leg's start to the first leg's last tick, and on to the first tick
-/// let mut runner = Runner { leg: 1, offset: 0 };
-/// station::back(&COURSE_A, &mut runner)?;
-/// assert_eq!(runner, Runner { leg: 0, offset: 1 });
-/// station::back(&COURSE_A, &mut runner)?;
-/// assert_eq!(station::back(&COURSE_A, &mut runner), Err(Refusal::Start));
-/// assert_eq!(runner, Runner::default());
-/// # Ok::<(), station::Refusal>(())
-/// ```
-#[inline]
-pub fn back(sheet: &[u8], runner: &mut Runner) -> Result<(), Refusal> {
-    let mut record = [runner.leg, runner.offset];
-    done(raw::back(sheet, &mut record))?;
-    *runner = Runner { leg: record[0], offset: record[1] };
-    Ok(())
 }
 
 /// Writes a sheet at the front of the slice `sheet`, whose bytes behind it stay, from lists in the sheet's order (G1): the legs; north,

@@ -27,14 +27,15 @@ unsafe extern "C" {
         list_length: usize,
         leg: u64,
         offset: u64,
+        laps: u64,
         out: *mut i64,
         out_length: usize,
     ) -> u64;
-    /// Leg and offset at a tick into `out`.
+    /// Leg, offset and laps at a tick into `out`.
     pub fn station_runner_at_tick(sheet: *const u8, sheet_length: usize, tick: u64, out: *mut u64, out_length: usize) -> u64;
-    /// Moves `runner`, a leg and an offset, on by a tick.
+    /// Moves `runner`, a leg, an offset and laps, on by a tick.
     pub fn station_step(sheet: *const u8, sheet_length: usize, runner: *mut u64, runner_length: usize) -> u64;
-    /// Moves `runner`, a leg and an offset, back by a tick.
+    /// Moves `runner`, a leg, an offset and laps, back by a tick.
     pub fn station_back(sheet: *const u8, sheet_length: usize, runner: *mut u64, runner_length: usize) -> u64;
     /// A sheet from its lists into `sheet`, its length into `out`.
     pub fn station_write(
@@ -61,8 +62,8 @@ unsafe extern "C" {
         out: *mut u64,
         out_length: usize,
     ) -> u64;
-    /// Moves on by a tick the seat of `fleet`, a leg and an offset for each, whose turn it is; its place into `place`, the next turn into
-    /// `next`.
+    /// Moves on by a tick the seat of `fleet`, a leg, an offset and laps for each, whose turn it is; its place into `place`, the next turn
+    /// into `next`.
     pub fn station_round(
         sheet: *const u8,
         sheet_length: usize,
@@ -112,25 +113,27 @@ pub(crate) fn place_at_tick(sheet: &[u8], list: &[i64], tick: u64, out: &mut [i6
 }
 
 #[inline]
-pub(crate) fn place_of_runner(sheet: &[u8], list: &[i64], leg: u64, offset: u64, out: &mut [i64; 3]) -> u64 {
+pub(crate) fn place_of_runner(sheet: &[u8], list: &[i64], runner: Runner, out: &mut [i64; 3]) -> u64 {
+    let (s, n, l, m) = (sheet.as_ptr(), sheet.len(), list.as_ptr(), list.len());
+    let Runner { leg, offset, laps } = runner;
     // SAFETY: pointers and lengths of three borrowed slices, `out` borrowed mutably.
-    unsafe { station_place_of_runner(sheet.as_ptr(), sheet.len(), list.as_ptr(), list.len(), leg, offset, out.as_mut_ptr(), out.len()) }
+    unsafe { station_place_of_runner(s, n, l, m, leg, offset, laps, out.as_mut_ptr(), out.len()) }
 }
 
 #[inline]
-pub(crate) fn runner_at_tick(sheet: &[u8], tick: u64, out: &mut [u64; 2]) -> u64 {
+pub(crate) fn runner_at_tick(sheet: &[u8], tick: u64, out: &mut [u64; 3]) -> u64 {
     // SAFETY: pointers and lengths of two borrowed slices, `out` borrowed mutably.
     unsafe { station_runner_at_tick(sheet.as_ptr(), sheet.len(), tick, out.as_mut_ptr(), out.len()) }
 }
 
 #[inline]
-pub(crate) fn step(sheet: &[u8], runner: &mut [u64; 2]) -> u64 {
+pub(crate) fn step(sheet: &[u8], runner: &mut [u64; 3]) -> u64 {
     // SAFETY: pointers and lengths of two borrowed slices, `runner` borrowed mutably.
     unsafe { station_step(sheet.as_ptr(), sheet.len(), runner.as_mut_ptr(), runner.len()) }
 }
 
 #[inline]
-pub(crate) fn back(sheet: &[u8], runner: &mut [u64; 2]) -> u64 {
+pub(crate) fn back(sheet: &[u8], runner: &mut [u64; 3]) -> u64 {
     // SAFETY: pointers and lengths of two borrowed slices, `runner` borrowed mutably.
     unsafe { station_back(sheet.as_ptr(), sheet.len(), runner.as_mut_ptr(), runner.len()) }
 }
@@ -150,14 +153,14 @@ pub(crate) fn join(first: &[u8], second: &[u8], sheet: &mut [u8], out: &mut [u64
     unsafe { station_join(a, first.len(), b, second.len(), page, length, out.as_mut_ptr(), out.len()) }
 }
 
-// A fleet's runners are its numbers as they lie: does not compile where a runner is more than its two.
-const _: () = assert!(size_of::<Runner>() == 2 * size_of::<u64>());
+// A fleet's runners are its numbers as they lie: does not compile where a runner is more than its three.
+const _: () = assert!(size_of::<Runner>() == 3 * size_of::<u64>());
 
 #[inline]
 pub(crate) fn round(sheet: &[u8], list: &[i64], fleet: &mut [Runner], turn: u64, place: &mut [i64; 3], next: &mut [u64; 1]) -> u64 {
     let (s, n, l, m) = (sheet.as_ptr(), sheet.len(), list.as_ptr(), list.len());
-    // leg and offset of each runner in turn (`repr(C)`)
-    let (seats, numbers) = (fleet.as_mut_ptr().cast(), 2 * fleet.len());
+    // leg, offset and laps of each runner in turn (`repr(C)`)
+    let (seats, numbers) = (fleet.as_mut_ptr().cast(), 3 * fleet.len());
     // SAFETY: pointers and lengths of five borrowed slices, `fleet`, `place` and `next` borrowed mutably.
     unsafe { station_round(s, n, l, m, seats, numbers, turn, place.as_mut_ptr(), place.len(), next.as_mut_ptr(), next.len()) }
 }

@@ -36,7 +36,7 @@ pub enum Refusal {
     Shelf,
     /// N10: the tick is over the course's last, on an open course.
     Past,
-    /// N11: no such leg, or the offset is beyond it.
+    /// N11: no such leg, or the offset is beyond it, or laps on an open course.
     Adrift,
     /// N12: at an end of the leg, a bend number over 2^37 in size.
     Bend,
@@ -44,7 +44,7 @@ pub enum Refusal {
     Landed,
     /// N14: the slice is shorter than the sheet to be written into it.
     Page,
-    /// N15: the runner stands at the first tick of an open course.
+    /// N15: the runner stands at the first waypoint with no lap flown.
     Start,
     /// N16: one of the two sheets to be joined is not free-ended.
     Shut,
