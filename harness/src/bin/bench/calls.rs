@@ -2,19 +2,22 @@
 
 use crate::forms::Form;
 use harness::boundary::Calls;
-use harness::model::{self, Lists};
+use harness::model::{self, Lists, Runner};
 use std::hint::black_box;
 
 /// Something to time; it does its work once for the k-th sheet.
 pub type Work<'a> = Box<dyn FnMut(usize) + 'a>;
 
-/// A tick of a course; laps on, it is reduced before its leg is looked for (P4).
+/// A tick of a course; laps on, it is reduced before its leg is looked for (P4). The last two are of closed courses: five laps on, and one
+/// tick before that.
 #[derive(Clone, Copy)]
 pub enum At {
     First,
     Middle,
     Last,
     LapsOn,
+    LapFlown,
+    LapEnding,
 }
 
 impl At {
@@ -24,6 +27,8 @@ impl At {
             At::Middle => "a middle tick",
             At::Last => "the last tick",
             At::LapsOn => "a tick five laps on",
+            At::LapFlown => "a lap's first tick",
+            At::LapEnding => "a lap's last tick",
         }
     }
 
@@ -34,6 +39,8 @@ impl At {
             At::Middle => form.ticks[k] / 2,
             At::Last => form.last[k],
             At::LapsOn => 5 * form.ticks[k] + form.ticks[k] / 2,
+            At::LapFlown => 5 * form.ticks[k],
+            At::LapEnding => 5 * form.ticks[k] - 1,
         }
     }
 }
@@ -45,8 +52,9 @@ pub enum Call {
     PlaceAt(At),
     PlaceOfRunner,
     RunnerAt(At),
-    Step,
-    Back,
+    /// Of the runner at a tick, as is the back.
+    Step(At),
+    Back(At),
     Write,
     Join,
     /// Of so many seats.
@@ -76,15 +84,16 @@ impl Call {
                 let ticks = ticks(form, at);
                 Box::new(move |k| {
                     let (s, n) = sheet(k);
-                    black_box(unsafe { (calls.runner_at_tick)(s, n, ticks[k], numbers.as_mut_ptr(), 2) });
+                    black_box(unsafe { (calls.runner_at_tick)(s, n, ticks[k], numbers.as_mut_ptr(), 3) });
                 })
             }
-            Call::Step | Call::Back => {
-                let call = if matches!(self, Call::Step) { calls.step } else { calls.back };
+            Call::Step(at) | Call::Back(at) => {
+                let call = if matches!(self, Call::Step(_)) { calls.step } else { calls.back };
+                let runners = runners(form, at);
                 Box::new(move |k| {
                     let (s, n) = sheet(k);
-                    let mut runner = form.runners[k];
-                    black_box(unsafe { call(s, n, runner.as_mut_ptr(), 2) });
+                    let mut runner = runners[k];
+                    black_box(unsafe { call(s, n, runner.as_mut_ptr(), 3) });
                 })
             }
             Call::PlaceAt(_) | Call::PlaceOfRunner => self.placing(calls, form),
@@ -109,8 +118,8 @@ impl Call {
         }
         Box::new(move |k| {
             let ((s, n), (l, m)) = (sheet(k), list(k));
-            let [leg, offset] = form.runners[k];
-            black_box(unsafe { (calls.place_of_runner)(s, n, l, m, leg, offset, place.as_mut_ptr(), 3) });
+            let [leg, offset, laps] = form.runners[k];
+            black_box(unsafe { (calls.place_of_runner)(s, n, l, m, leg, offset, laps, place.as_mut_ptr(), 3) });
         })
     }
 
@@ -133,7 +142,7 @@ impl Call {
 /// Rounds of a fleet with the turn handed on as it comes back. Each call finds the seat's runner halfway round, where it is not refused: a
 /// refusal would be quick.
 fn rounds<'a>(calls: &'a Calls, form: &'a Form, seats: usize) -> Work<'a> {
-    let (mut fleet, mut place, mut next) = (vec![0; 2 * seats], [0; 3], [0]);
+    let (mut fleet, mut place, mut next) = (vec![0; 3 * seats], [0; 3], [0]);
     for (k, sheet) in form.sheets.iter().enumerate() {
         let mut seat = form.runners[k];
         let served = model::round(sheet, &form.lists[k], &mut seat, 0).expect("a fleet of one seat");
@@ -141,7 +150,7 @@ fn rounds<'a>(calls: &'a Calls, form: &'a Form, seats: usize) -> Work<'a> {
     }
     Box::new(move |k| {
         let turn = next[0];
-        fleet[2 * turn as usize..][..2].copy_from_slice(&form.runners[k]);
+        fleet[3 * turn as usize..][..3].copy_from_slice(&form.runners[k]);
         black_box(calls.round_slices(&form.sheets[k], &form.lists[k], &mut fleet, turn, &mut place, &mut next));
     })
 }
@@ -164,9 +173,12 @@ fn strokes<'a>(calls: &'a Calls, form: &'a Form, tolerance: i64, counted: bool) 
 
 /// The tick on each sheet of a form, which has to have it: a refusal would be quick.
 fn ticks(form: &Form, at: At) -> Vec<u64> {
-    let ticks: Vec<u64> = (0..form.sheets.len()).map(|k| at.tick(form, k)).collect();
-    for (sheet, tick) in form.sheets.iter().zip(&ticks) {
-        model::runner_at_tick(sheet, *tick).expect("a tick of the course");
-    }
-    ticks
+    runners(form, at);
+    (0..form.sheets.len()).map(|k| at.tick(form, k)).collect()
+}
+
+/// The runner at the tick on each sheet.
+fn runners(form: &Form, at: At) -> Vec<Runner> {
+    let runner = |(k, sheet): (usize, &Vec<u8>)| model::runner_at_tick(sheet, at.tick(form, k)).expect("a tick of the course");
+    form.sheets.iter().enumerate().map(runner).collect()
 }

@@ -1,6 +1,6 @@
 //! The sheets that the benchmark's calls are timed on, eight of each form but the longest, with all that the calls take besides.
 
-use harness::model::{self, Kind, Lists};
+use harness::model::{self, Kind, Lists, Runner};
 use harness::pairs;
 use harness::random::Random;
 use harness::sheets::{self, Draft, CLOSED, FREE};
@@ -20,7 +20,7 @@ pub struct Form {
     /// The last tick: P on an open course, P - 1 on a closed one.
     pub last: Vec<u64>,
     /// A runner halfway round.
-    pub runners: Vec<[u64; 2]>,
+    pub runners: Vec<Runner>,
     /// Passes that laying out makes on the three axes together, on average over the sheets: to the first that changes nothing, or 40.
     pub passes: f64,
 }
@@ -60,8 +60,7 @@ impl Form {
         let ticks = course.ticks() as u64;
         self.ticks.push(ticks);
         self.last.push(ticks - u64::from(course.kind == Kind::Closed));
-        let (leg, offset) = model::runner_at_tick(sheet, ticks / 2).expect("a tick of the course");
-        self.runners.push([leg, offset]);
+        self.runners.push(model::runner_at_tick(sheet, ticks / 2).expect("a tick of the course"));
         for axis in 0..3 {
             let rows = course.rows(axis);
             let mut z = vec![0; n];

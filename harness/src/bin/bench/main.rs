@@ -176,7 +176,7 @@ fn time_calls(bench: &mut Bench, open: &[Form; 2], three: &Form, laid: &[[Form; 
     let [large, small] = [large, small].map(|form| time_form(bench, form, &ticks));
     time_form(bench, three, &[At::Last]);
     let one_seat = bench.call("round, 1 seat", &open[1], Call::Round(1));
-    bench.call(&format!("place at {}", At::LapsOn.name()), &laid[0][1], Call::PlaceAt(At::LapsOn));
+    time_laps(bench, &laid[0][1]);
     let per_pass = time_laying_out(bench, three, laid);
     let strokes = time_strokes(bench, three, longest);
     for ((name, call, large), (_, _, small)) in large.into_iter().zip(small) {
@@ -209,8 +209,8 @@ fn time_form(bench: &mut Bench, form: &Form, ticks: &[At]) -> Vec<(String, Call,
         at_ticks("place", Call::PlaceAt),
         one("place of a runner", Call::PlaceOfRunner),
         at_ticks("runner", Call::RunnerAt),
-        one("step", Call::Step),
-        one("back", Call::Back),
+        one("step", Call::Step(At::Middle)),
+        one("back", Call::Back(At::Middle)),
         one("write", Call::Write),
         one("join", Call::Join),
         one(&format!("round, {MOST_SEATS} seats"), Call::Round(MOST_SEATS)),
@@ -220,6 +220,14 @@ fn time_form(bench: &mut Bench, form: &Form, ticks: &[At]) -> Vec<(String, Call,
         (name, call, time)
     };
     calls.into_iter().flatten().map(timed).collect()
+}
+
+/// Laps on a closed course: where the laps of a tick are divided for (M10), and where one is added or taken off.
+fn time_laps(bench: &mut Bench, closed: &Form) {
+    bench.call(&format!("place at {}", At::LapsOn.name()), closed, Call::PlaceAt(At::LapsOn));
+    bench.call(&format!("runner at {}", At::LapsOn.name()), closed, Call::RunnerAt(At::LapsOn));
+    bench.call(&format!("step from {}", At::LapEnding.name()), closed, Call::Step(At::LapEnding));
+    bench.call(&format!("back from {}", At::LapFlown.name()), closed, Call::Back(At::LapFlown));
 }
 
 /// Laying out on its forms; of those whose growth is asked for the name and the library's nanoseconds a pass, small and large. (Not of the
