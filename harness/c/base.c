@@ -147,12 +147,15 @@ static void lay_out_axes(const struct course *c, int64_t *list)
         lay_out_axis(c, axis, list + axis * c->n);
 }
 
-static uint64_t find_tick(const struct course *c, uint64_t tick, uint64_t *leg, uint64_t *offset)
+static uint64_t find_tick(const struct course *c, uint64_t tick, uint64_t *leg, uint64_t *offset, uint64_t *laps)
 {
-    if (c->kind == STATION_CLOSED)
+    *laps = 0;
+    if (c->kind == STATION_CLOSED) {
+        *laps = tick / c->ticks;
         tick %= c->ticks;
-    else if (tick > c->ticks)
+    } else if (tick > c->ticks) {
         return STATION_PAST;
+    }
     uint64_t start = 0;
     for (uint64_t i = 0; i < c->leg_count; i++) {
         uint64_t end = start + leg_at(c, i);

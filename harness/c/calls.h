@@ -19,8 +19,8 @@ struct course {
 static uint64_t read_course(const uint8_t *s, size_t length, struct course *c);
 /* Lays out all three axes in the first 3N places of a list. */
 static void lay_out_axes(const struct course *c, int64_t *list);
-/* Test 10, then the leg and offset that a tick names. */
-static uint64_t find_tick(const struct course *c, uint64_t tick, uint64_t *leg, uint64_t *offset);
+/* Test 10, then the leg, offset and laps that a tick names. */
+static uint64_t find_tick(const struct course *c, uint64_t tick, uint64_t *leg, uint64_t *offset, uint64_t *laps);
 /* The length of a leg. */
 static uint64_t leg_length(const struct course *c, uint64_t leg);
 /* Test 12, the room, then the place at a leg and an offset that fit. */
@@ -41,9 +41,9 @@ static int some_bend_bad(const int64_t *list, size_t count);
 static uint64_t draw(const struct course *c, const int64_t *list, int64_t tolerance, uint64_t *ends, size_t ends_length, uint64_t *count);
 
 /* Test 11. */
-static int is_adrift(const struct course *c, uint64_t leg, uint64_t offset)
+static int is_adrift(const struct course *c, uint64_t leg, uint64_t offset, uint64_t laps)
 {
-    if (leg >= c->leg_count)
+    if (leg >= c->leg_count || (laps > 0 && c->kind != STATION_CLOSED))
         return 1;
     uint64_t h = leg_length(c, leg);
     if (offset < h)
@@ -51,10 +51,10 @@ static int is_adrift(const struct course *c, uint64_t leg, uint64_t offset)
     return !(offset == h && c->kind != STATION_CLOSED && leg == c->leg_count - 1);
 }
 
-/* Tests 11 and 13 of a runner, then moves it on by a tick. */
+/* Tests 11 and 13 of a runner, then moves it on by a tick. The most laps are kept (M10). */
 static inline uint64_t move_on(const struct course *c, uint64_t *runner)
 {
-    if (is_adrift(c, runner[0], runner[1]))
+    if (is_adrift(c, runner[0], runner[1], runner[2]))
         return STATION_ADRIFT;
     uint64_t h = leg_length(c, runner[0]);
     if (runner[1] == h)
@@ -65,6 +65,8 @@ static inline uint64_t move_on(const struct course *c, uint64_t *runner)
     } else {
         runner[0] = last ? 0 : runner[0] + 1;
         runner[1] = 0;
+        if (last && runner[2] < UINT64_MAX)
+            runner[2] += 1;
     }
     return STATION_DONE;
 }
@@ -99,20 +101,20 @@ uint64_t NAME(place_at_tick)(const uint8_t *sheet, size_t sheet_length, const in
                              int64_t *out, size_t out_length)
 {
     struct course c;
-    uint64_t leg, offset;
+    uint64_t leg, offset, laps;
     uint64_t answer = read_course(sheet, sheet_length, &c);
     if (answer)
         return answer;
     if (list_length < 3 * c.n)
         return STATION_SHELF;
-    answer = find_tick(&c, tick, &leg, &offset);
+    answer = find_tick(&c, tick, &leg, &offset, &laps);
     if (answer)
         return answer;
     return place(&c, list, leg, offset, out, out_length);
 }
 
 uint64_t NAME(place_of_runner)(const uint8_t *sheet, size_t sheet_length, const int64_t *list, size_t list_length, uint64_t leg,
-                               uint64_t offset, int64_t *out, size_t out_length)
+                               uint64_t offset, uint64_t laps, int64_t *out, size_t out_length)
 {
     struct course c;
     uint64_t answer = read_course(sheet, sheet_length, &c);
@@ -120,7 +122,7 @@ uint64_t NAME(place_of_runner)(const uint8_t *sheet, size_t sheet_length, const 
         return answer;
     if (list_length < 3 * c.n)
         return STATION_SHELF;
-    if (is_adrift(&c, leg, offset))
+    if (is_adrift(&c, leg, offset, laps))
         return STATION_ADRIFT;
     return place(&c, list, leg, offset, out, out_length);
 }
@@ -128,17 +130,18 @@ uint64_t NAME(place_of_runner)(const uint8_t *sheet, size_t sheet_length, const 
 uint64_t NAME(runner_at_tick)(const uint8_t *sheet, size_t sheet_length, uint64_t tick, uint64_t *out, size_t out_length)
 {
     struct course c;
-    uint64_t leg, offset;
+    uint64_t leg, offset, laps;
     uint64_t answer = read_course(sheet, sheet_length, &c);
     if (answer)
         return answer;
-    answer = find_tick(&c, tick, &leg, &offset);
+    answer = find_tick(&c, tick, &leg, &offset, &laps);
     if (answer)
         return answer;
-    if (out_length < 2)
+    if (out_length < 3)
         return ROOM;
     out[0] = leg;
     out[1] = offset;
+    out[2] = laps;
     return STATION_DONE;
 }
 
@@ -148,7 +151,7 @@ uint64_t NAME(step)(const uint8_t *sheet, size_t sheet_length, uint64_t *runner,
     uint64_t answer = read_course(sheet, sheet_length, &c);
     if (answer)
         return answer;
-    if (runner_length < 2)
+    if (runner_length < 3)
         return NO_RUNNER;
     return move_on(&c, runner);
 }
@@ -159,17 +162,22 @@ uint64_t NAME(back)(const uint8_t *sheet, size_t sheet_length, uint64_t *runner,
     uint64_t answer = read_course(sheet, sheet_length, &c);
     if (answer)
         return answer;
-    if (runner_length < 2)
+    if (runner_length < 3)
         return NO_RUNNER;
-    if (is_adrift(&c, runner[0], runner[1]))
+    if (is_adrift(&c, runner[0], runner[1], runner[2]))
         return STATION_ADRIFT;
     if (runner[1] > 0) {
         runner[1] -= 1;
         return STATION_DONE;
     }
-    if (runner[0] == 0 && c.kind != STATION_CLOSED)
-        return STATION_START;
-    runner[0] = runner[0] == 0 ? c.leg_count - 1 : runner[0] - 1;
+    if (runner[0] == 0) {
+        /* an open course's runner has no lap */
+        if (runner[2] == 0)
+            return STATION_START;
+        runner[0] = c.leg_count;
+        runner[2] -= 1;
+    }
+    runner[0] -= 1;
     runner[1] = leg_length(&c, runner[0]) - 1;
     return STATION_DONE;
 }
@@ -262,7 +270,7 @@ uint64_t NAME(round)(const uint8_t *sheet, size_t sheet_length, const int64_t *l
                      size_t fleet_length, uint64_t turn, int64_t *out, size_t out_length, uint64_t *next, size_t next_length)
 {
     struct course c;
-    size_t seats = fleet_length / 2;
+    size_t seats = fleet_length / 3;
     uint64_t answer = read_course(sheet, sheet_length, &c);
     if (answer)
         return answer;
@@ -274,8 +282,8 @@ uint64_t NAME(round)(const uint8_t *sheet, size_t sheet_length, const int64_t *l
         return STATION_TURN;
     if (next_length > 0)
         next[0] = turn + 1 < seats ? turn + 1 : 0;
-    uint64_t *seat = fleet + 2 * turn;
-    uint64_t runner[2] = {seat[0], seat[1]};
+    uint64_t *seat = fleet + 3 * turn;
+    uint64_t runner[3] = {seat[0], seat[1], seat[2]};
     answer = move_on(&c, runner);
     if (answer)
         return answer;
@@ -284,6 +292,7 @@ uint64_t NAME(round)(const uint8_t *sheet, size_t sheet_length, const int64_t *l
         return answer;
     seat[0] = runner[0];
     seat[1] = runner[1];
+    seat[2] = runner[2];
     return answer;
 }
 

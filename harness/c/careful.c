@@ -208,12 +208,17 @@ static void lay_out_axes(const struct course *c, int64_t *list)
     }
 }
 
-static uint64_t find_tick(const struct course *c, uint64_t tick, uint64_t *leg, uint64_t *offset)
+static uint64_t find_tick(const struct course *c, uint64_t tick, uint64_t *leg, uint64_t *offset, uint64_t *laps)
 {
-    if (c->kind == STATION_CLOSED)
-        tick = tick < c->ticks ? tick : tick % c->ticks;
-    else if (tick > c->ticks)
-        return STATION_PAST;
+    *laps = 0;
+    if (c->kind != STATION_CLOSED) {
+        if (tick > c->ticks)
+            return STATION_PAST;
+    } else if (tick >= c->ticks) {
+        /* one division for both, and none on the first lap */
+        *laps = tick / c->ticks;
+        tick %= c->ticks;
+    }
     /* the last sixteenth leg that starts at the tick or before it, then from there the last leg that does */
     uint64_t last = c->leg_count - 1, sixteens = last / 16, b = 0;
     while (b < sixteens && tick >= c->sums[b + 1])

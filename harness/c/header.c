@@ -67,47 +67,51 @@ uint64_t structs_place_at_tick(const uint8_t *sheet, size_t n, const int64_t *li
 }
 
 uint64_t structs_place_of_runner(const uint8_t *sheet, size_t n, const int64_t *list, size_t k, uint64_t leg, uint64_t offset,
-                                 int64_t *out, size_t m)
+                                 uint64_t laps, int64_t *out, size_t m)
 {
     if (m < 3)
-        return station_place_of_runner(sheet, n, list, k, leg, offset, out, m);
+        return station_place_of_runner(sheet, n, list, k, leg, offset, laps, out, m);
     struct station_place place = {out[0], out[1], out[2]};
-    struct station_runner runner = {leg, offset};
+    struct station_runner runner = {leg, offset, laps};
     uint64_t answer = station_place_of_runner_into(sheet, n, list, k, runner, &place);
     put_place(&place, out);
     return answer;
 }
 
+static void put_runner(const struct station_runner *runner, uint64_t *out)
+{
+    out[0] = runner->leg;
+    out[1] = runner->offset;
+    out[2] = runner->laps;
+}
+
 uint64_t structs_runner_at_tick(const uint8_t *sheet, size_t n, uint64_t tick, uint64_t *out, size_t m)
 {
-    if (m < 2)
+    if (m < 3)
         return station_runner_at_tick(sheet, n, tick, out, m);
-    struct station_runner runner = {out[0], out[1]};
+    struct station_runner runner = {out[0], out[1], out[2]};
     uint64_t answer = station_runner_at_tick_into(sheet, n, tick, &runner);
-    out[0] = runner.leg;
-    out[1] = runner.offset;
+    put_runner(&runner, out);
     return answer;
 }
 
 uint64_t structs_step(const uint8_t *sheet, size_t n, uint64_t *runner, size_t m)
 {
-    if (m < 2)
+    if (m < 3)
         return station_step(sheet, n, runner, m);
-    struct station_runner record = {runner[0], runner[1]};
+    struct station_runner record = {runner[0], runner[1], runner[2]};
     uint64_t answer = station_step_runner(sheet, n, &record);
-    runner[0] = record.leg;
-    runner[1] = record.offset;
+    put_runner(&record, runner);
     return answer;
 }
 
 uint64_t structs_back(const uint8_t *sheet, size_t n, uint64_t *runner, size_t m)
 {
-    if (m < 2)
+    if (m < 3)
         return station_back(sheet, n, runner, m);
-    struct station_runner record = {runner[0], runner[1]};
+    struct station_runner record = {runner[0], runner[1], runner[2]};
     uint64_t answer = station_back_runner(sheet, n, &record);
-    runner[0] = record.leg;
-    runner[1] = record.offset;
+    put_runner(&record, runner);
     return answer;
 }
 
@@ -148,7 +152,7 @@ uint64_t structs_round(const uint8_t *sheet, size_t n, const int64_t *list, size
         return station_round(sheet, n, list, k, fleet, f, turn, out, m, next, t);
     struct station_place place = {out[0], out[1], out[2]};
     uint64_t at = turn;
-    uint64_t answer = station_round_fleet(sheet, n, list, k, (struct station_runner *)fleet, f / 2, &at, &place);
+    uint64_t answer = station_round_fleet(sheet, n, list, k, (struct station_runner *)fleet, f / 3, &at, &place);
     put_place(&place, out);
     if (passes_on(answer) || at != turn)
         next[0] = at;
@@ -166,14 +170,18 @@ uint64_t structs_strokes(const uint8_t *sheet, size_t n, const int64_t *list, si
     return answer;
 }
 
-/* W17 as a C program meets it: the course is written from its lists, then the runners at ticks around its first sixteen legs. */
+/* W17 as a C program meets it: the courses are written from their lists, then the runners at ticks around their first sixteen legs, and a
+ * lap on. */
 struct figure {
-    uint64_t tick, answer, leg, offset;
+    uint64_t kind, tick, answer;
+    struct station_runner runner;
 };
 
 static const struct figure figures[] = {
-    {135, STATION_DONE, 15, 15}, {136, STATION_DONE, 16, 0},  {152, STATION_DONE, 16, 16},
-    {153, STATION_DONE, 17, 0},  {171, STATION_DONE, 17, 18}, {172, STATION_PAST, 77, 77},
+    {STATION_FREE, 135, STATION_DONE, {15, 15, 0}}, {STATION_FREE, 136, STATION_DONE, {16, 0, 0}},
+    {STATION_FREE, 152, STATION_DONE, {16, 16, 0}}, {STATION_FREE, 153, STATION_DONE, {17, 0, 0}},
+    {STATION_FREE, 171, STATION_DONE, {17, 18, 0}}, {STATION_FREE, 172, STATION_PAST, {77, 77, 77}},
+    {STATION_CLOSED, 190, STATION_DONE, {0, 0, 1}}, {STATION_CLOSED, 326, STATION_DONE, {16, 0, 1}},
 };
 
 /* Whether the i-th figure is met: 1 or 0, and -1 past the last. */
@@ -181,16 +189,17 @@ int header_figure(size_t i)
 {
     if (i >= sizeof figures / sizeof figures[0])
         return -1;
-    uint64_t legs[18];
+    const struct figure *figure = &figures[i];
+    uint64_t legs[19];
     int64_t waypoints[57] = {0};
-    for (uint64_t leg = 0; leg < 18; leg++)
+    for (uint64_t leg = 0; leg < 19; leg++)
         legs[leg] = leg + 1;
-    struct station_lists lists = {STATION_FREE, legs, 18, waypoints, 57, 0, 0};
+    struct station_lists lists = {figure->kind, legs, figure->kind == STATION_CLOSED ? 19 : 18, waypoints, 57, 0, 0};
     uint8_t sheet[STATION_LONGEST_SHEET];
     size_t length = 0;
     if (station_write_lists(&lists, sheet, sizeof sheet, &length) != STATION_DONE)
         return 0;
-    struct station_runner runner = {77, 77};
-    uint64_t answer = station_runner_at_tick_into(sheet, length, figures[i].tick, &runner);
-    return answer == figures[i].answer && runner.leg == figures[i].leg && runner.offset == figures[i].offset;
+    struct station_runner runner = {77, 77, 77}, wanted = figure->runner;
+    uint64_t answer = station_runner_at_tick_into(sheet, length, figure->tick, &runner);
+    return answer == figure->answer && runner.leg == wanted.leg && runner.offset == wanted.offset && runner.laps == wanted.laps;
 }

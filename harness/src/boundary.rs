@@ -1,10 +1,13 @@
 //! The C boundary: what include/station.h promises, said by the model, and the calls of the library and of the C files by name.
 
-use crate::model::{self, Lists};
+use crate::model::{self, Lists, Runner};
 use crate::room::{NO_RUNNER, ROOM};
 
 /// `station_write`: the kind, three lists, the page, the out.
 type Write = unsafe extern "C" fn(u64, *const u64, usize, *const i64, usize, *const i64, usize, *mut u8, usize, *mut u64, usize) -> u64;
+
+/// `station_place_of_runner`: the sheet, the list, the leg, the offset, the laps, the out.
+type PlaceOfRunner = unsafe extern "C" fn(*const u8, usize, *const i64, usize, u64, u64, u64, *mut i64, usize) -> u64;
 
 /// `station_round`: the sheet, the list, the fleet, the turn, the place, the next turn.
 type Round = unsafe extern "C" fn(*const u8, usize, *const i64, usize, *mut u64, usize, u64, *mut i64, usize, *mut u64, usize) -> u64;
@@ -18,7 +21,7 @@ pub struct Calls {
     pub read: unsafe extern "C" fn(*const u8, usize, *mut u64, usize) -> u64,
     pub lay_out: unsafe extern "C" fn(*const u8, usize, *mut i64, usize) -> u64,
     pub place_at_tick: unsafe extern "C" fn(*const u8, usize, *const i64, usize, u64, *mut i64, usize) -> u64,
-    pub place_of_runner: unsafe extern "C" fn(*const u8, usize, *const i64, usize, u64, u64, *mut i64, usize) -> u64,
+    pub place_of_runner: PlaceOfRunner,
     pub runner_at_tick: unsafe extern "C" fn(*const u8, usize, u64, *mut u64, usize) -> u64,
     pub step: unsafe extern "C" fn(*const u8, usize, *mut u64, usize) -> u64,
     pub back: unsafe extern "C" fn(*const u8, usize, *mut u64, usize) -> u64,
@@ -75,7 +78,7 @@ macro_rules! c_calls {
             fn $lay_out(sheet: *const u8, n: usize, list: *mut i64, m: usize) -> u64;
             fn $place_at_tick(sheet: *const u8, n: usize, list: *const i64, k: usize, tick: u64, out: *mut i64, m: usize) -> u64;
             fn $place_of_runner(
-                sheet: *const u8, n: usize, list: *const i64, k: usize, leg: u64, offset: u64, out: *mut i64, m: usize,
+                sheet: *const u8, n: usize, list: *const i64, k: usize, leg: u64, offset: u64, laps: u64, out: *mut i64, m: usize,
             ) -> u64;
             fn $runner_at_tick(sheet: *const u8, n: usize, tick: u64, out: *mut u64, m: usize) -> u64;
             fn $step(sheet: *const u8, n: usize, runner: *mut u64, m: usize) -> u64;
@@ -197,7 +200,7 @@ pub enum Call {
     Read,
     LayOut,
     PlaceAtTick { tick: u64 },
-    PlaceOfRunner { leg: u64, offset: u64 },
+    PlaceOfRunner { runner: Runner },
     RunnerAtTick { tick: u64 },
     Step,
     Back,
@@ -280,7 +283,7 @@ impl Call {
             Call::Read => lent.words.len() < 3,
             Call::LayOut => false,
             Call::PlaceAtTick { .. } | Call::PlaceOfRunner { .. } => lent.place.len() < 3,
-            Call::RunnerAtTick { .. } | Call::Step | Call::Back => lent.words.len() < 2,
+            Call::RunnerAtTick { .. } | Call::Step | Call::Back => lent.words.len() < 3,
             Call::Write(_) | Call::Join(_) | Call::Strokes { .. } => lent.words.is_empty(),
             Call::Round { .. } => lent.place.len() < 3 || lent.next.is_empty(),
         }
@@ -293,8 +296,8 @@ impl Call {
             Call::Read => model::read(sheet).and_then(|course| put(words, &[course.kind as u64, course.n as u64, course.ticks() as u64])),
             Call::LayOut => model::lay_out(sheet, list),
             Call::PlaceAtTick { tick } => model::place_at_tick(sheet, list, tick).and_then(|found| put(place, &found)),
-            Call::PlaceOfRunner { leg, offset } => model::place_of_runner(sheet, list, leg, offset).and_then(|found| put(place, &found)),
-            Call::RunnerAtTick { tick } => model::runner_at_tick(sheet, tick).and_then(|(leg, offset)| put(words, &[leg, offset])),
+            Call::PlaceOfRunner { runner } => model::place_of_runner(sheet, list, runner).and_then(|found| put(place, &found)),
+            Call::RunnerAtTick { tick } => model::runner_at_tick(sheet, tick).and_then(|runner| put(words, &runner)),
             Call::Step => moved(sheet, words, model::stepped),
             Call::Back => moved(sheet, words, model::backed),
             Call::Write(ref lists) => model::write(lists, page).and_then(|length| put(words, &[length as u64])),
@@ -318,8 +321,8 @@ impl Call {
                 Call::Read => (calls.read)(s, n, out, m),
                 Call::LayOut => (calls.lay_out)(s, n, list.as_mut_ptr(), list.len()),
                 Call::PlaceAtTick { tick } => (calls.place_at_tick)(s, n, list.as_ptr(), list.len(), tick, place.as_mut_ptr(), place.len()),
-                Call::PlaceOfRunner { leg, offset } => {
-                    (calls.place_of_runner)(s, n, list.as_ptr(), list.len(), leg, offset, place.as_mut_ptr(), place.len())
+                Call::PlaceOfRunner { runner: [leg, offset, laps] } => {
+                    (calls.place_of_runner)(s, n, list.as_ptr(), list.len(), leg, offset, laps, place.as_mut_ptr(), place.len())
                 }
                 Call::RunnerAtTick { tick } => (calls.runner_at_tick)(s, n, tick, out, m),
                 Call::Step => (calls.step)(s, n, out, m),
@@ -333,10 +336,10 @@ impl Call {
     }
 }
 
-/// The model's step or back on a lent runner. Fewer than two numbers are none: only the sheet is tested.
-fn moved(sheet: &[u8], words: &mut [u64], by: impl Fn(&[u8], u64, u64) -> Result<(u64, u64), u64>) -> Result<(), u64> {
+/// The model's step or back on a lent runner. Fewer than three numbers are none: only the sheet is tested.
+fn moved(sheet: &[u8], words: &mut [u64], by: impl Fn(&[u8], Runner) -> Result<Runner, u64>) -> Result<(), u64> {
     match *words {
-        [leg, offset, ..] => by(sheet, leg, offset).and_then(|(leg, offset)| put(words, &[leg, offset])),
+        [leg, offset, laps, ..] => by(sheet, [leg, offset, laps]).and_then(|runner| put(words, &runner)),
         _ => model::read(sheet).and(Err(NO_RUNNER)),
     }
 }

@@ -13,7 +13,7 @@ mod writing;
 pub use joining::join;
 pub use refusals::*;
 pub use rounds::{round, Served, MOST_SEATS};
-pub use runners::{backed, runner_at_tick, stepped};
+pub use runners::{backed, runner_at_tick, stepped, Runner};
 pub use strokes::{strokes, MOST_STROKE_ENDS, MOST_TOLERANCE};
 pub use writing::{write, Lists};
 
@@ -301,16 +301,17 @@ pub fn lay_out(sheet: &[u8], list: &mut [i64]) -> Result<(), u64> {
 pub fn place_at_tick(sheet: &[u8], list: &[i64], tick: u64) -> Result<[i64; 3], u64> {
     let course = read(sheet)?;
     shelf(&course, list)?;
-    let (leg, offset) = course.runner(tick).ok_or(PAST)?;
+    let (leg, offset) = course.leg_and_offset(tick).ok_or(PAST)?;
     course.place(list, leg, offset)
 }
 
 /// A5.
-pub fn place_of_runner(sheet: &[u8], list: &[i64], leg: u64, offset: u64) -> Result<[i64; 3], u64> {
+pub fn place_of_runner(sheet: &[u8], list: &[i64], runner: Runner) -> Result<[i64; 3], u64> {
     let course = read(sheet)?;
     shelf(&course, list)?;
-    if !course.fits(leg, offset) {
+    if !course.fits(runner) {
         return Err(ADRIFT);
     }
+    let [leg, offset, _] = runner;
     course.place(list, leg as usize, i128::from(offset))
 }

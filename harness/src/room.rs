@@ -4,5 +4,5 @@
 /// The out has fewer places than there are results: the number is the same as with room.
 pub const ROOM: u64 = 0;
 
-/// The runner lent to a step or a back has fewer than two places: it holds no runner, which is adrift.
+/// The runner lent to a step or a back has fewer than three places: it holds no runner, which is adrift.
 pub const NO_RUNNER: u64 = 11;

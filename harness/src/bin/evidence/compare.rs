@@ -131,7 +131,7 @@ impl Comparison {
         (answer, after)
     }
 
-    /// Compares the Rust wrapper's answer to the same call; it always has room. A kind above 2 cannot be said there, nor a number behind a
+    /// Compares the Rust wrapper's answer to the same call; it always has room. A kind above 2 cannot be said there, nor numbers behind a
     /// fleet's last seat, and the next turn takes the turn's place.
     pub fn compare_wrapper(&mut self, call: &Call, sheet: &[u8], before: &Lent) {
         if let Call::Write(Lists { kind: 3.., .. }) = call {
@@ -139,7 +139,7 @@ impl Comparison {
         }
         let mut model = Lent { place: vec![0; 3], ..before.clone() };
         if let Call::Round { turn } = *call {
-            model.words.truncate(before.words.len() / 2 * 2);
+            model.words.truncate(before.words.len() / 3 * 3);
             model.next = vec![turn];
         } else {
             model.words.resize(3, 0);
@@ -163,10 +163,8 @@ fn by_wrapper(call: &Call, sheet: &[u8], lent: &mut Lent) -> Result<(), Refusal>
         Call::Read => wrapper::read(sheet).map(|course| lent.words.copy_from_slice(&course)),
         Call::LayOut => wrapper::lay_out(sheet, &mut lent.list),
         Call::PlaceAtTick { tick } => wrapper::place_at_tick(sheet, &lent.list, tick).map(|place| lent.place = place.to_vec()),
-        Call::PlaceOfRunner { leg, offset } => {
-            wrapper::place_of_runner(sheet, &lent.list, [leg, offset]).map(|place| lent.place = place.to_vec())
-        }
-        Call::RunnerAtTick { tick } => wrapper::runner_at_tick(sheet, tick).map(|runner| lent.words[..2].copy_from_slice(&runner)),
+        Call::PlaceOfRunner { runner } => wrapper::place_of_runner(sheet, &lent.list, runner).map(|place| lent.place = place.to_vec()),
+        Call::RunnerAtTick { tick } => wrapper::runner_at_tick(sheet, tick).map(|runner| lent.words.copy_from_slice(&runner)),
         Call::Step => moved(sheet, &mut lent.words, wrapper::step),
         Call::Back => moved(sheet, &mut lent.words, wrapper::back),
         Call::Write(ref lists) => wrapper::write(lists, &mut lent.page).map(|length| lent.words[0] = length as u64),
@@ -181,10 +179,10 @@ fn by_wrapper(call: &Call, sheet: &[u8], lent: &mut Lent) -> Result<(), Refusal>
 }
 
 /// A step or a back by the wrapper on a lent runner.
-fn moved(sheet: &[u8], words: &mut [u64], by: fn(&[u8], &mut [u64; 2]) -> Result<(), Refusal>) -> Result<(), Refusal> {
-    let mut runner = [words[0], words[1]];
+fn moved(sheet: &[u8], words: &mut [u64], by: fn(&[u8], &mut [u64; 3]) -> Result<(), Refusal>) -> Result<(), Refusal> {
+    let mut runner = [words[0], words[1], words[2]];
     let answer = by(sheet, &mut runner);
-    words[..2].copy_from_slice(&runner);
+    words.copy_from_slice(&runner);
     answer
 }
 

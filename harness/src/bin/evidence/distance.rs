@@ -122,7 +122,7 @@ fn on_axis(
         let leg = random.below(course.legs.len());
         let h = course.legs[leg];
         let offset = if random.once_in(2) { h / 2 } else { random.below(h as usize) as i128 };
-        let place = wrapper::place_of_runner(sheet, list, [leg as u64, offset as u64]);
+        let place = wrapper::place_of_runner(sheet, list, [leg as u64, offset as u64, 0]);
         let exact = elimination::place(course, axis, &bends, leg, offset);
         let off = place.map_or(f64::NAN, |place| (place[axis] as f64 - exact).abs());
         near(comparison, &mut largest.place, off, PLACE_LIMIT, || {
@@ -212,7 +212,7 @@ fn places_of(
     let ticks = course.ticks() as u64;
     for tick in (0..=ticks).step_by(ticks as usize / 150 + 1) {
         let place = wrapper::place_at_tick(sheet, list, tick);
-        let (leg, offset) = course.runner(tick).expect("a tick of the course");
+        let (leg, offset) = course.leg_and_offset(tick).expect("a tick of the course");
         let (off, within) = place.map_or((f64::NAN, false), |place| spline.distance(leg, offset, place[axis]));
         exactly(comparison, largest, off, within, PLACE_LIMIT, || format!("tick {tick}: {place:?} of {course:?}"));
     }

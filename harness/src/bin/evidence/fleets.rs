@@ -13,10 +13,10 @@ pub fn run(random: &mut Random, comparison: &mut Comparison, sheet: &[u8], cours
     let turn = turn(random, k as u64);
     let mut words: Vec<u64> = (0..k).flat_map(|_| runner(random, course)).collect();
     // the seat's leg; for a turn that is no seat's, any leg will do
-    let leg = *usize::try_from(turn).ok().and_then(|seat| words.chunks(2).nth(seat)).map_or(&0, |seat| &seat[0]);
-    // an odd number at the end, which belongs to no seat (Q1)
+    let leg = *usize::try_from(turn).ok().and_then(|seat| words.chunks(3).nth(seat)).map_or(&0, |seat| &seat[0]);
+    // one or two numbers left over, which belong to no seat (Q1)
     if random.once_in(4) {
-        words.push(random.word());
+        words.extend([random.word(), random.word()].iter().take(1 + random.below(2)));
     }
     let list = bends(random, course, own, leg);
     let (place, next) = (room(random, 3), room(random, 1));

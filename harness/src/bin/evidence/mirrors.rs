@@ -6,6 +6,7 @@ use crate::parts::Part;
 use crate::sheets::lent;
 use harness::boundary::{Call, Memory, LIBRARY};
 use harness::mirrors;
+use harness::model::Runner;
 use harness::random::Random;
 use harness::sheets::{Draft, CLOSED};
 
@@ -27,8 +28,8 @@ pub fn run(random: &mut Random, comparison: &mut Comparison) {
     for _ in 0..8 {
         let tick = tick(random, &pair.draft);
         flown(comparison, &mut pair, &Call::PlaceAtTick { tick });
-        let [leg, offset] = runner(random, &pair.draft);
-        flown(comparison, &mut pair, &Call::PlaceOfRunner { leg, offset });
+        let runner = runner(random, &pair.draft);
+        flown(comparison, &mut pair, &Call::PlaceOfRunner { runner });
     }
 }
 
@@ -74,9 +75,10 @@ fn tick(random: &mut Random, draft: &Draft) -> u64 {
 }
 
 /// A runner that is not adrift (N11).
-fn runner(random: &mut Random, draft: &Draft) -> [u64; 2] {
+fn runner(random: &mut Random, draft: &Draft) -> Runner {
     let leg = random.below(draft.legs.len());
     let full = draft.kind != CLOSED && leg == draft.legs.len() - 1;
     let offset = random.below(usize::from(draft.legs[leg]) + usize::from(full));
-    [leg as u64, offset as u64]
+    let laps = if draft.kind == CLOSED { random.any_size() } else { 0 };
+    [leg as u64, offset as u64, laps]
 }

@@ -48,8 +48,10 @@ pub enum Part {
     Backs,
     /// Open courses, stepped to the end and on, and back to the start and on.
     OpenEnds,
-    /// Steps and backs in random order against a count (M7, M8).
+    /// Steps and backs in random order against the ticks flown (M7, M8, M11).
     Walks,
+    /// Laps from none and about the most, step by step and back, and any laps in every call that tests them (M10, N11, N15).
+    Laps,
     /// Fleets of 1 to 33 seats flown round after round, each seat against a runner of its own (Q2 to Q6).
     Rounds,
     /// Strokes of the library at every tick of their courses, and every cut (H4 to H7).
@@ -59,7 +61,7 @@ pub enum Part {
 }
 
 /// The parts' names, in the order above.
-pub const NAMES: [&str; 26] = [
+pub const NAMES: [&str; 27] = [
     "worked",
     "header",
     "calls",
@@ -83,6 +85,7 @@ pub const NAMES: [&str; 26] = [
     "backs",
     "open-ends",
     "walks",
+    "laps",
     "rounds",
     "strokes",
     "on-foot",

@@ -1,12 +1,14 @@
 //! Fleets of 1 to 33 seats on sheets of the three kinds, flown by the library round after round with the turn handed on as it came back.
-//! Each seat is held to the model, to a runner of its own that is stepped and asked for its place, and to a count of its ticks (Q2, Q3,
-//! Q6), and any k rounds in a row serve each seat once (Q5). Bend numbers go bad and are mended on the way.
+//! Each seat is held to the model, to a runner of its own that is stepped and asked for its place, and to a count of the ticks that it has
+//! flown (Q2, Q3, Q6, M11), and any k rounds in a row serve each seat once (Q5). Bend numbers go bad and are mended on the way.
 
 use crate::compare::{hex, Comparison};
+use crate::flown::Flown;
 use crate::parts::Part;
+use crate::sheets::laps;
 use crate::{wrapper, Options};
 use harness::boundary::{Call, Lent, Memory, LIBRARY};
-use harness::model::{Course, ADRIFT, BEND, LANDED, MOST_SEATS, SEATS, SHELF, TORN, TURN};
+use harness::model::{Course, Runner, ADRIFT, BEND, LANDED, MOST_SEATS, SEATS, SHELF, TORN, TURN};
 use harness::random::Random;
 use harness::sheets;
 
@@ -15,13 +17,16 @@ use harness::sheets;
 struct Made {
     done: u64,
     adrift: u64,
+    /// Adrift for nothing but laps on an open course.
+    lapped: u64,
     landed: u64,
     bend: u64,
     /// Done, with a bad number at the leg just left; landed, with one at the last leg.
     left: u64,
     landed_first: u64,
-    /// Done, to the first waypoint of a closed course.
+    /// Done, to the first waypoint of a closed course; of these, with the most laps.
     over: u64,
+    most_laps: u64,
     /// Refused with their number alone: of 33 seats, and others.
     too_many: u64,
     alone: u64,
@@ -32,9 +37,9 @@ struct Made {
 /// A seat as it is counted here.
 struct Seat {
     /// A runner of its own.
-    runner: [u64; 2],
-    /// The tick at which it stands; none where it is adrift.
-    tick: Option<u64>,
+    runner: Runner,
+    /// The ticks that it has flown; none where it is adrift.
+    flown: Option<Flown>,
     /// The round in which it was served last.
     last: Option<u64>,
 }
@@ -82,32 +87,39 @@ pub fn run(options: &Options, comparison: &mut Comparison) {
 
 /// Prints what was flown; each of its counts has to be above 0.
 fn report(comparison: &mut Comparison, flights: u64, made: &Made) {
-    let &Made { done, adrift, landed, bend, left, landed_first, over, too_many, alone, strangers } = made;
-    let reached = [done, adrift, landed, bend, left, landed_first, over, too_many, alone, strangers];
+    let &Made { done, adrift, lapped, landed, bend, left, landed_first, over, most_laps, too_many, alone, strangers } = made;
+    let reached = [done, adrift, lapped, landed, bend, left, landed_first, over, most_laps, too_many, alone, strangers];
     comparison.require(!reached.contains(&0), || format!("rounds that were not reached: {reached:?}"));
     println!(
         "rounds: {flights} fleets of 1 to 33 seats, {} rounds compared: {done} moved on ({over} to the first waypoint of a closed course, \
-         {left} off a leg with a bad bend number), {adrift} adrift, {landed} landed ({landed_first} on a leg with a bad bend number), \
-         {bend} refused for a bend number; {too_many} of 33 seats and {alone} more refused with their number alone; {strangers} made again \
-         beside other seats",
-        done + adrift + landed + bend
+         {most_laps} of them with 2^64 - 1 laps, {left} off a leg with a bad bend number), {adrift} adrift, {lapped} more for laps on an \
+         open course, {landed} landed ({landed_first} on a leg with a bad bend number), {bend} refused for a bend number; {too_many} of 33 \
+         seats and {alone} more refused with their number alone; {strangers} made again beside other seats",
+        done + adrift + lapped + landed + bend
     );
 }
 
-/// A seat's start: the first tick, one of the last ones, any; or a record that is adrift.
+/// A seat's start: the first tick, one of the last ones, any, on a closed course with any laps; or a record that is adrift.
 fn start(random: &mut Random, comparison: &mut Comparison, sheet: &[u8], course: &Course) -> Seat {
     let (legs, ticks) = (course.legs.len() as u64, course.ticks() as u64);
+    let laps = laps(random, course);
     if random.once_in(8) {
-        let far = random.any_size();
-        let runner = random.pick(&[[legs, 0], [0, 257], [legs.saturating_add(far), far], [u64::MAX; 2]]);
-        return Seat { runner, tick: None, last: None };
+        return Seat { runner: adrift(random, legs, laps), flown: None, last: None };
     }
     let last = if course.closed() { ticks - 1 } else { ticks };
     let (late, any) = (last - last.min(random.below(6) as u64), random.below(last as usize + 1) as u64);
-    let tick = random.pick(&[0, late, late, any]);
-    let runner = wrapper::runner_at_tick(sheet, tick);
-    comparison.require(runner.is_ok(), || format!("no runner at tick {tick} of {ticks}: {runner:?}"));
-    Seat { runner: runner.unwrap_or_default(), tick: Some(tick), last: None }
+    let flown = Flown::new(course, random.pick(&[0, late, late, any]), if course.closed() { laps } else { 0 });
+    let runner = flown.runner(sheet);
+    comparison.require(runner.is_ok(), || format!("no runner for {flown:?}: {runner:?}"));
+    let [leg, offset, _] = runner.unwrap_or_default();
+    // laps on an open course are adrift
+    Seat { runner: [leg, offset, laps], flown: (laps == flown.laps()).then_some(flown), last: None }
+}
+
+/// A record that is adrift on any course of so many legs.
+fn adrift(random: &mut Random, legs: u64, laps: u64) -> Runner {
+    let far = random.any_size();
+    random.pick(&[[legs, 0, laps], [0, 257, laps], [legs.saturating_add(far), far, laps], [u64::MAX; 3]])
 }
 
 impl<'a> Flight<'a> {
@@ -139,7 +151,7 @@ impl<'a> Flight<'a> {
             made.too_many += 1;
         }
         self.seats.pop();
-        self.fleet.truncate(2 * self.seats.len());
+        self.fleet.truncate(3 * self.seats.len());
         self.turn %= self.seats.len() as u64;
     }
 
@@ -168,7 +180,7 @@ impl<'a> Flight<'a> {
         match due {
             TORN => sheet = &sheet[..sheet.len() - 1],
             SHELF => list.truncate(3 * self.course.n - 1),
-            SEATS => fleet.truncate(random.below(2)),
+            SEATS => fleet.truncate(random.below(3)),
             _ => turn = random.pick(&[k, k + 1, turn + (1 << 32), u64::MAX]),
         }
         let before = (list.clone(), fleet.clone(), place, next);
@@ -188,23 +200,23 @@ impl<'a> Flight<'a> {
         let (seat, mut fleet) = (self.turn as usize, self.fleet.clone());
         let told = self.told(&mut fleet, self.turn);
         let mut others: Vec<u64> = self.fleet.iter().map(|_| random.any_size()).collect();
-        others[2 * seat..2 * seat + 2].copy_from_slice(&self.fleet[2 * seat..2 * seat + 2]);
+        let own = 3 * seat..3 * seat + 3;
+        others[own.clone()].copy_from_slice(&self.fleet[own.clone()]);
         let mut wanted = others.clone();
-        wanted[2 * seat..2 * seat + 2].copy_from_slice(&fleet[2 * seat..2 * seat + 2]);
+        wanted[own.clone()].copy_from_slice(&fleet[own]);
         let got = self.told(&mut others, self.turn);
         comparison.require(got == told && others == wanted, || format!("seat {seat}: {got:?} {others:?}, not {told:?} {wanted:?}"));
         made.strangers += 1;
     }
 
     /// What is due by a runner of the seat's own: a step, then the place at which it stands.
-    fn due(&mut self, seat: usize) -> (u64, [i64; 3], [u64; 2]) {
+    fn due(&mut self, seat: usize) -> (u64, [i64; 3], Runner) {
         let (before, (mut place, _)) = (self.seats[seat].runner, UNTOUCHED);
         let mut runner = before;
         let mut answer = Call::Step.by(&LIBRARY, Memory { sheet: self.sheet, words: &mut runner, ..Memory::default() });
         if answer == 0 {
-            let [leg, offset] = runner;
             let memory = Memory { sheet: self.sheet, list: &mut self.list, place: &mut place, ..Memory::default() };
-            answer = Call::PlaceOfRunner { leg, offset }.by(&LIBRARY, memory);
+            answer = Call::PlaceOfRunner { runner }.by(&LIBRARY, memory);
         }
         (answer, place, if answer == 0 { runner } else { before })
     }
@@ -235,41 +247,45 @@ impl<'a> Flight<'a> {
         self.turn = got.2[0].min(self.seats.len() as u64 - 1);
     }
 
-    /// Q6, Q5: a round that moved the seat adds one to its ticks, and it stands there; the others leave it, and 11 and 13 are for a seat
-    /// that is adrift or at the end. It was served last k rounds ago, or not yet.
+    /// Q6, Q5: a round that moved the seat adds one to the ticks that it has flown, and it is the runner that has flown so many; the others
+    /// leave it, and 11 and 13 are for a seat that is adrift or at the end. It was served last k rounds ago, or not yet.
     fn counted(&mut self, comparison: &mut Comparison, answer: u64, turn: usize) {
-        let (ticks, closed, k, round) = (self.course.ticks() as u64, self.course.closed(), self.seats.len() as u64, self.rounds);
+        let (k, round) = (self.seats.len() as u64, self.rounds);
         let seat = &mut self.seats[turn];
-        let due: &[u64] = match seat.tick {
+        let mut on = seat.flown;
+        let due: &[u64] = match on.as_mut().map(Flown::on) {
             None => &[ADRIFT],
-            Some(tick) if tick == ticks && !closed => &[LANDED],
+            Some(LANDED) => &[LANDED],
             Some(_) => &[0, BEND],
         };
-        if let (0, Some(tick)) = (answer, seat.tick) {
-            seat.tick = Some(if closed { (tick + 1) % ticks } else { tick + 1 });
+        if answer == 0 {
+            seat.flown = on;
         }
-        let stands = [self.fleet[2 * turn], self.fleet[2 * turn + 1]];
-        let named = seat.tick.map_or(Ok(stands), |tick| wrapper::runner_at_tick(self.sheet, tick));
+        let stands = [0, 1, 2].map(|number| self.fleet[3 * turn + number]);
+        let named = seat.flown.map_or(Ok(stands), |flown| flown.runner(self.sheet));
         let in_turn = seat.last.map_or(round < k, |last| round - last == k);
         seat.last = Some(round);
-        let tick = seat.tick;
+        let flown = seat.flown;
         self.rounds += 1;
         comparison.require(due.contains(&answer) && named == Ok(stands) && in_turn, || {
-            format!("round {round}, seat {turn} of {k}: {answer}, due {due:?}; at {tick:?} {stands:?}, not {named:?}; in turn: {in_turn}")
+            format!("round {round}, seat {turn} of {k}: {answer}, due {due:?}; {flown:?} {stands:?}, not {named:?}; in turn: {in_turn}")
         });
     }
 
     /// Counts the round, and whether a bad bend number that must not matter was met.
-    fn tally(&self, made: &mut Made, answer: u64, from: [u64; 2], seat: usize) {
+    fn tally(&self, made: &mut Made, answer: u64, from: Runner, seat: usize) {
         let leg = from[0] as usize;
         let bad = leg < self.course.legs.len() && self.course.place(&self.list, leg, 0) == Err(BEND);
         match answer {
             0 => {
-                let [onto, offset] = self.seats[seat].runner;
+                let [onto, offset, _] = self.seats[seat].runner;
+                let over = self.course.closed() && [onto, offset] == [0, 0];
                 made.done += 1;
                 made.left += u64::from(onto != from[0] && bad);
-                made.over += u64::from(self.course.closed() && [onto, offset] == [0, 0]);
+                made.over += u64::from(over);
+                made.most_laps += u64::from(over && from[2] == u64::MAX);
             }
+            ADRIFT if self.course.fits([from[0], from[1], 0]) => made.lapped += 1,
             ADRIFT => made.adrift += 1,
             LANDED => {
                 made.landed += 1;

@@ -6,7 +6,7 @@ use crate::{drawings, fleets, joins, mirrors, writes, Options};
 use harness::boundary::{Call, Lent, NAMES, TESTS};
 use harness::fence::Stand;
 use harness::lists;
-use harness::model::{self, Course, Kind, WORDS};
+use harness::model::{self, Course, Kind, Runner, WORDS};
 use harness::random::Random;
 use harness::sheets;
 
@@ -97,12 +97,12 @@ fn on_refused(random: &mut Random, comparison: &mut Comparison, sheet: &[u8]) {
     let list = random.pick(&[0, 1, 6, 9, 40, 1536]);
     let (words, place, next) = (random.below(5), random.below(5), random.below(2));
     let before = Lent { next: vec![random.word(); next], ends: vec![random.word(); 2], ..lent(random, list, words, place) };
-    let (tick, leg, offset) = (random.any_size(), random.any_size(), random.any_size());
+    let (tick, runner) = (random.any_size(), [(); 3].map(|()| random.any_size()));
     let calls = [
         Call::Read,
         Call::LayOut,
         Call::PlaceAtTick { tick },
-        Call::PlaceOfRunner { leg, offset },
+        Call::PlaceOfRunner { runner },
         Call::RunnerAtTick { tick },
         Call::Step,
         Call::Back,
@@ -154,13 +154,13 @@ fn places(random: &mut Random, comparison: &mut Comparison, sheet: &[u8], course
     let list = bend_list(random, own, need);
     let place = room(random, 3);
     let before = Lent { list, ..lent(random, 0, 0, place) };
-    let [leg, offset] = runner(random, course);
-    try_call(random, comparison, Call::PlaceOfRunner { leg, offset }, sheet, &before);
+    let runner = runner(random, course);
+    try_call(random, comparison, Call::PlaceOfRunner { runner }, sheet, &before);
 }
 
 /// A runner at a tick, a step, and a back.
 fn runners(random: &mut Random, comparison: &mut Comparison, sheet: &[u8], course: &Course) {
-    let words = room(random, 2);
+    let words = room(random, 3);
     let before = lent(random, 0, words, 0);
     let tick = tick(random, course);
     try_call(random, comparison, Call::RunnerAtTick { tick }, sheet, &before);
@@ -168,7 +168,7 @@ fn runners(random: &mut Random, comparison: &mut Comparison, sheet: &[u8], cours
     for call in [Call::Step, Call::Back] {
         let mut words = runner(random, course).to_vec();
         words.extend([random.word(), random.word()]);
-        words.truncate(room(random, 2).min(4));
+        words.truncate(room(random, 3).min(5));
         let before = Lent { words, ..lent(random, 0, 0, 0) };
         try_call(random, comparison, call, sheet, &before);
     }
@@ -214,12 +214,26 @@ fn tick(random: &mut Random, course: &Course) -> u64 {
     }
 }
 
+/// Laps: on an open course mostly none, since any are adrift; on a closed one few, the most, nearly the most, or any.
+pub fn laps(random: &mut Random, course: &Course) -> u64 {
+    if !course.closed() && !random.once_in(12) {
+        return 0;
+    }
+    match random.below(8) {
+        0 => u64::MAX,
+        1 => u64::MAX - random.below(3) as u64,
+        2 => 1 << random.below(64),
+        3 => random.any_size(),
+        _ => random.below(3) as u64,
+    }
+}
+
 /// A runner that fits, or is at an end of its leg, or is adrift.
-pub fn runner(random: &mut Random, course: &Course) -> [u64; 2] {
-    let l = course.legs.len();
+pub fn runner(random: &mut Random, course: &Course) -> Runner {
+    let (l, laps) = (course.legs.len(), laps(random, course));
     let leg = match random.below(12) {
-        0 => return [random.any_size(), random.any_size()],
-        1 => return [l as u64 + random.below(2) as u64, random.below(2) as u64],
+        0 => return [random.any_size(), random.any_size(), random.any_size()],
+        1 => return [l as u64 + random.below(2) as u64, random.below(2) as u64, laps],
         2..=4 => l - 1,
         5 | 6 => 0,
         _ => random.below(l),
@@ -234,7 +248,7 @@ pub fn runner(random: &mut Random, course: &Course) -> [u64; 2] {
         7 | 8 => 0,
         _ => random.below(h as usize) as u64,
     };
-    [leg as u64, offset]
+    [leg as u64, offset, laps]
 }
 
 /// Prints how often each call gave each number. In a run of some size each number that a call tests must have been reached, by a joining 1

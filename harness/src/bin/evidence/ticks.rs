@@ -1,16 +1,16 @@
 //! Ticks at every leg of courses with 1 to 512 legs (P3, P4, P7): the library's runners, and some of its places, against the model, and both
-//! against legs and offsets that are counted here, with the start of each leg summed anew; on mixed legs the careful C as well.
+//! against legs, offsets and laps that are counted here, with the start of each leg summed anew; on mixed legs the careful C as well.
 
 use crate::compare::{hex, Comparison};
 use crate::parts::Part;
 use crate::Options;
 use harness::boundary::{Call, Calls, Memory, CAREFUL, LIBRARY};
-use harness::model::{Course, MOST_POINTS, PAST};
+use harness::model::{Course, Runner, MOST_POINTS, PAST};
 use harness::random::Random;
 use harness::sheets::{self, CLOSED, FREE, HELD};
 
-/// A tick with the leg and offset that it names; none where the course has no such tick.
-type Counted = (u64, Option<[u64; 2]>);
+/// A tick with the runner that it names; none where the course has no such tick.
+type Counted = (u64, Option<Runner>);
 
 /// What was tried, and how many of the runners were refused.
 #[derive(Default)]
@@ -83,7 +83,7 @@ impl Tried {
     }
 
     /// What a runner from a tick answers and leaves.
-    fn asked(&self, calls: &Calls, tick: u64) -> (u64, [u64; 2]) {
+    fn asked(&self, calls: &Calls, tick: u64) -> (u64, Runner) {
         let mut words = UNTOUCHED;
         let answer = Call::RunnerAtTick { tick }.by(calls, Memory { sheet: &self.sheet, words: &mut words, ..Memory::default() });
         (answer, words)
@@ -92,7 +92,7 @@ impl Tried {
     /// The library's runner, and the model's, against the counted one.
     fn runner(&self, comparison: &mut Comparison, made: &mut Made, (tick, named): Counted) {
         let (got, wanted) = (self.asked(&LIBRARY, tick), answered(named));
-        let model = self.course.runner(tick).map(|(leg, offset)| [leg as u64, offset as u64]);
+        let model = self.course.runner(tick);
         comparison.require(got == wanted && model == named, || {
             format!("at tick {tick}: {got:?}, model {model:?}, counted {named:?}\n  sheet {}", hex(&self.sheet))
         });
@@ -113,7 +113,7 @@ impl Tried {
         let mut place = [i64::MAX; 3];
         let memory = Memory { sheet: &self.sheet, list: &mut self.list, place: &mut place, ..Memory::default() };
         let answer = Call::PlaceAtTick { tick }.by(&LIBRARY, memory);
-        let found = self.course.runner(tick).ok_or(PAST).and_then(|(leg, offset)| self.course.place(&self.list, leg, offset));
+        let found = self.course.leg_and_offset(tick).ok_or(PAST).and_then(|(leg, offset)| self.course.place(&self.list, leg, offset));
         let wanted = found.map_or_else(|number| (number, [i64::MAX; 3]), |place| (0, place));
         comparison.require((answer, place) == wanted, || {
             format!("place at tick {tick}: {answer} {place:?}, model {wanted:?}\n  sheet {}", hex(&self.sheet))
@@ -122,15 +122,15 @@ impl Tried {
 }
 
 /// What the out of a runner holds before the call.
-const UNTOUCHED: [u64; 2] = [u64::MAX; 2];
+const UNTOUCHED: Runner = [u64::MAX; 3];
 
 /// The answer that is due, and what it leaves.
-fn answered(named: Option<[u64; 2]>) -> (u64, [u64; 2]) {
+fn answered(named: Option<Runner>) -> (u64, Runner) {
     named.map_or((PAST, UNTOUCHED), |runner| (0, runner))
 }
 
 /// Of every leg its start, a tick on it, and its last tick, which is the one before the next leg's start and at the end P - 1. Then P, P + 1
-/// and the largest tick on an open course; a closed one has them a lap later, and all of these once more in the last laps of 64 bits.
+/// and the largest tick on an open course; a closed one has them with a lap, and all of these once more in the last laps of 64 bits.
 fn counted(random: &mut Random, course: &Course) -> Vec<Counted> {
     let legs: Vec<u64> = course.legs.iter().map(|leg| *leg as u64).collect();
     let mut counted: Vec<Counted> = vec![];
@@ -138,16 +138,18 @@ fn counted(random: &mut Random, course: &Course) -> Vec<Counted> {
         let start: u64 = legs[..leg].iter().sum();
         let mut offsets = vec![0, random.below(*h as usize) as u64, h - 1];
         offsets.dedup();
-        counted.extend(offsets.into_iter().map(|offset| (start + offset, Some([leg as u64, offset]))));
+        counted.extend(offsets.into_iter().map(|offset| (start + offset, Some([leg as u64, offset, 0]))));
     }
     let ticks: u64 = legs.iter().sum();
     if !course.closed() {
         let last = legs.len() - 1;
-        counted.extend([(ticks, Some([last as u64, legs[last]])), (ticks + 1, None), (u64::MAX, None)]);
+        counted.extend([(ticks, Some([last as u64, legs[last], 0])), (ticks + 1, None), (u64::MAX, None)]);
         return counted;
     }
-    counted.push((1, Some(if legs[0] > 1 { [0, 1] } else { [1, 0] })));
-    let latest = u64::MAX / ticks * ticks;
-    let late = |tick| latest.checked_add(tick).unwrap_or(latest - ticks + tick);
-    counted.into_iter().flat_map(|(tick, named)| [(tick, named), (tick + ticks, named), (late(tick), named)]).collect()
+    counted.push((1, Some(if legs[0] > 1 { [0, 1, 0] } else { [1, 0, 0] })));
+    // the last lap of 64 bits is begun; where it does not reach the tick, the one before it does
+    let most = u64::MAX / ticks;
+    let last = |tick| if u64::MAX - most * ticks < tick { most - 1 } else { most };
+    let on = |(tick, named): Counted, laps: u64| (laps * ticks + tick, named.map(|[leg, offset, _]| [leg, offset, laps]));
+    counted.into_iter().flat_map(|first| [first, on(first, 1), on(first, last(first.0))]).collect()
 }

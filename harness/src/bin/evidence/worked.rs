@@ -1,4 +1,6 @@
-//! The figures of group W, typed here by hand: model, library, C files and wrapper are held to them.
+//! The figures of group W, typed here by hand: model, library, C files and wrapper are held to them. Those for runners are in runners.rs.
+
+mod runners;
 
 use crate::compare::Comparison;
 use crate::parts::Part;
@@ -14,7 +16,6 @@ pub type Worked = (Draft, &'static [i64], &'static [(u64, i64)]);
 
 /// W1 to W9, W16.
 pub fn courses() -> Vec<Worked> {
-    let square = Draft::of(CLOSED, &[2; 4], &[0, 6, 0, -6], None);
     vec![
         (Draft::of(FREE, &[2, 2], &[0, 8, 0], None), &[0, -65_536, 0], &[(0, 0), (1, 6), (2, 8), (3, 6), (4, 0)]),
         (Draft::of(FREE, &[2, 2], &[0, -8, 0], None), &[0, 65_536, 0], &[(1, -6)]),
@@ -22,7 +23,7 @@ pub fn courses() -> Vec<Worked> {
         (Draft::of(FREE, &[1, 2], &[0, 0, 6], None), &[0, 32_768, 0], &[(2, 2)]),
         (Draft::of(HELD, &[4], &[0, 16], Some([0, 0])), &[65_536, -65_536], &[(1, 3), (2, 8)]),
         (Draft::of(HELD, &[4], &[0, 16], Some([4, 4])), &[0, 0], &[(1, 4)]),
-        (square, &[0, -49_152, 0, 49_152], &[(1, 4), (7, -4), (18_446_744_073_709_551_615, -4)]),
+        (square(), &[0, -49_152, 0, 49_152], &[(1, 4), (7, -4), (18_446_744_073_709_551_615, -4)]),
         (Draft::of(FREE, &[5], &[3, -4], None), &[0, 0], &[]),
         // W16: a course, its mirror image, and the image with the slopes as they were, which is none
         (Draft::of(HELD, &[4], &[0, 16], Some([8, 8])), &[-65_536, 65_536], &[(1, 6), (2, 8), (3, 11)]),
@@ -34,6 +35,11 @@ pub fn courses() -> Vec<Worked> {
 /// T5: course A with its three axes.
 fn course_a() -> Draft {
     Draft { points: vec![[0, 10, 20], [8, 10, 22], [0, 10, 24]], ..Draft::of(FREE, &[2, 2], &[0; 3], None) }
+}
+
+/// W7: closed, four legs of 2 ticks.
+fn square() -> Draft {
+    Draft::of(CLOSED, &[2; 4], &[0, 6, 0, -6], None)
 }
 
 /// W10: sheets with what reading them answers.
@@ -128,14 +134,11 @@ pub fn run(comparison: &mut Comparison) {
         let before = Lent { place: vec![-1; 3], ..laid_out.clone() };
         expect(comparison, &Call::PlaceAtTick { tick: tick as u64 }, &a, &before, wanted.to_string(), place);
     }
-    refusals_and_far_tick(comparison);
+    refusals(comparison);
     reaching(comparison);
     writing(comparison);
-    going_back(comparison);
     joining(comparison);
-    around_sixteen_legs(comparison);
-    rounds_of_two(comparison);
-    rounds_refused(comparison);
+    runners::run(comparison);
     strokes_kept_and_cut(comparison);
     strokes_refused(comparison);
     println!("worked courses: {} comparisons with the figures of group W", comparison.tally.compared(Part::Worked));
@@ -146,16 +149,9 @@ fn place(answer: u64, after: &Lent) -> String {
     format!("{answer} {:?}", after.place)
 }
 
-/// An answer and the runner that it leaves.
-fn runner(answer: u64, after: &Lent) -> String {
-    format!("{answer} {:?}", &after.words[..2])
-}
-
-/// W8's tick stands at 7, which is offset 1 of leg 3; and W10.
-fn refusals_and_far_tick(comparison: &mut Comparison) {
+/// W10.
+fn refusals(comparison: &mut Comparison) {
     let lent = Lent { words: vec![u64::MAX; 3], ..Lent::default() };
-    let square = Draft::of(CLOSED, &[2; 4], &[0, 6, 0, -6], None).bytes();
-    expect(comparison, &Call::RunnerAtTick { tick: u64::MAX }, &square, &lent, "0 [3, 1]".to_string(), runner);
     for (sheet, wanted) in read_or_refused() {
         expect(comparison, &Call::Read, &sheet, &lent, wanted.to_string(), |answer, _| answer.to_string());
     }
@@ -204,23 +200,6 @@ fn writing(comparison: &mut Comparison) {
     written(0, &[2; 511], &[0; 1_537], 2, "5 -1 eeee");
     written(0, &[2; 512], &[0; 1_539], 2, "4 -1 eeee");
     written(u64::MAX, &[2, 2], &a, 2, "3 -1 eeee");
-}
-
-/// W13: back on course A, and on W7's square.
-fn going_back(comparison: &mut Comparison) {
-    let a = Draft::of(FREE, &[2, 2], &[0, 8, 0], None).bytes();
-    let square = Draft::of(CLOSED, &[2; 4], &[0, 6, 0, -6], None).bytes();
-    let mut back = |sheet: &[u8], from: [u64; 2], wanted: &str| {
-        let before = Lent { words: vec![from[0], from[1], u64::MAX], ..Lent::default() };
-        expect(comparison, &Call::Back, sheet, &before, wanted.to_string(), runner);
-    };
-    back(&a, [1, 0], "0 [0, 1]");
-    back(&a, [1, 2], "0 [1, 1]");
-    back(&a, [0, 0], "15 [0, 0]");
-    back(&square, [0, 0], "0 [3, 1]");
-    back(&a, [0, 2], "11 [0, 2]");
-    back(&square, [4, 0], "11 [4, 0]");
-    back(&[], [0, 0], "1 [0, 0]");
 }
 
 /// One joining into a page of so many bytes; what it leaves.
@@ -275,74 +254,12 @@ fn most_joined(comparison: &mut Comparison) {
     joined(comparison, &second, &first, 2, "17 -1 eeee");
 }
 
-/// W17: runners around the sum of the first sixteen legs, on legs 1 to 18 and on the same closed by a leg of 19.
-fn around_sixteen_legs(comparison: &mut Comparison) {
-    let course = |kind, last: u16| Draft::of(kind, &(1..=last).collect::<Vec<u16>>(), &[0; 19], None).bytes();
-    let (open, closed) = (course(FREE, 18), course(CLOSED, 19));
-    let before = Lent { words: vec![77; 3], ..Lent::default() };
-    let figures: [(&[u8], u64, &str); 8] = [
-        (&open, 135, "0 [15, 15]"),
-        (&open, 136, "0 [16, 0]"),
-        (&open, 152, "0 [16, 16]"),
-        (&open, 153, "0 [17, 0]"),
-        (&open, 171, "0 [17, 18]"),
-        (&open, 172, "10 [77, 77]"),
-        (&closed, 190, "0 [0, 0]"),
-        (&closed, 326, "0 [16, 0]"),
-    ];
-    for (sheet, tick, wanted) in figures {
-        expect(comparison, &Call::RunnerAtTick { tick }, sheet, &before, wanted.to_string(), runner);
-    }
-}
-
 /// A sheet with its own bend numbers.
 fn laid_out(comparison: &mut Comparison, draft: &Draft) -> (Vec<u8>, Vec<i64>) {
     let sheet = draft.bytes();
     let before = Lent { list: vec![0; 3 * draft.points.len()], ..Lent::default() };
     let (_, after) = comparison.compare(&Call::LayOut, &sheet, &before);
     (sheet, after.list)
-}
-
-/// One round; its answer, place (-1 where none comes), next turn (77 where none comes) and the fleet that it leaves.
-fn served(comparison: &mut Comparison, (sheet, list): (&[u8], &[i64]), fleet: &[u64], turn: u64, wanted: &str) -> Vec<u64> {
-    let before = Lent { list: list.to_vec(), words: fleet.to_vec(), place: vec![-1; 3], next: vec![77], ..Lent::default() };
-    let left = |answer, after: &Lent| format!("{answer} {:?} {:?} {:?}", after.place, after.next, after.words);
-    expect(comparison, &Call::Round { turn }, sheet, &before, wanted.to_string(), left).words
-}
-
-/// W18: two seats on course A, and a seat on W7's square that goes round.
-fn rounds_of_two(comparison: &mut Comparison) {
-    let (a, list) = laid_out(comparison, &course_a());
-    let fleet = served(comparison, (&a, &list), &[0, 0, 1, 1], 0, "0 [6, 10, 21] [1] [0, 1, 1, 1]");
-    let fleet = served(comparison, (&a, &list), &fleet, 1, "0 [0, 10, 24] [0] [0, 1, 1, 2]");
-    let fleet = served(comparison, (&a, &list), &fleet, 1, "13 [-1, -1, -1] [0] [0, 1, 1, 2]");
-    served(comparison, (&a, &list), &fleet, 0, "0 [8, 10, 22] [1] [1, 0, 1, 2]");
-    let (square, list) = laid_out(comparison, &Draft::of(CLOSED, &[2; 4], &[0, 6, 0, -6], None));
-    served(comparison, (&square, &list), &[3, 1], 0, "0 [0, 0, 0] [0] [0, 0]");
-}
-
-/// W18: what course A's rounds are refused by, in A14's order; 12 is asked of the leg stepped onto, not of the one just left.
-fn rounds_refused(comparison: &mut Comparison) {
-    let (a, list) = laid_out(comparison, &course_a());
-    let bad = |waypoint: usize| (0..9).map(|i| if i == waypoint { (1 << 37) + 1 } else { list[i] }).collect::<Vec<i64>>();
-    let (first, last) = (bad(0), bad(2));
-    let on = |list| (&a[..], list);
-    // a number behind the last seat stays, and counts for none
-    served(comparison, on(&list[..]), &[0, 0, 1, 1, 5], 1, "0 [0, 10, 24] [0] [0, 0, 1, 2, 5]");
-    served(comparison, on(&list), &[0, 2, 1, 1], 0, "11 [-1, -1, -1] [1] [0, 2, 1, 1]");
-    served(comparison, on(&first), &[0, 1], 0, "0 [8, 10, 22] [0] [1, 0]");
-    served(comparison, on(&first), &[0, 0], 0, "12 [-1, -1, -1] [0] [0, 0]");
-    served(comparison, on(&last), &[0, 0], 0, "0 [6, 10, 21] [0] [0, 1]");
-    served(comparison, on(&last), &[0, 1], 0, "12 [-1, -1, -1] [0] [0, 1]");
-    served(comparison, on(&last), &[1, 2], 0, "13 [-1, -1, -1] [0] [1, 2]");
-    served(comparison, on(&list), &[0, 0, 1, 1], 2, "20 [-1, -1, -1] [77] [0, 0, 1, 1]");
-    served(comparison, on(&list), &[0], 0, "19 [-1, -1, -1] [77] [0]");
-    served(comparison, on(&list[..8]), &[], 0, "9 [-1, -1, -1] [77] []");
-    served(comparison, (&a[1..], &list[..8]), &[0, 0], 1, "1 [-1, -1, -1] [77] [0, 0]");
-    let fleet = [1; 66];
-    served(comparison, on(&list), &fleet, 33, &format!("19 [-1, -1, -1] [77] {fleet:?}"));
-    let moved = [&fleet[..63], &[2]].concat();
-    served(comparison, on(&list), &fleet[..64], 31, &format!("0 [0, 10, 24] [0] {moved:?}"));
 }
 
 /// Strokes into a list of so many places; the answer, how many ends (-1 where that does not come), and the list (77 where nothing came).

@@ -18,40 +18,50 @@ pub fn place_at_tick(sheet: &[u8], list: &[i64], tick: u64) -> Result<[i64; 3], 
     station::place_at_tick(sheet, list, tick).map(Into::into)
 }
 
+/// The wrapper's runner by its fields, not by the wrapper's own conversions: these are what is tried.
+fn typed([leg, offset, laps]: [u64; 3]) -> Runner {
+    Runner { leg, offset, laps }
+}
+
+/// Leg, offset, laps, likewise.
+fn plain(runner: &Runner) -> [u64; 3] {
+    [runner.leg, runner.offset, runner.laps]
+}
+
 /// North, east, up.
-pub fn place_of_runner(sheet: &[u8], list: &[i64], [leg, offset]: [u64; 2]) -> Result<[i64; 3], Refusal> {
-    station::place_of_runner(sheet, list, Runner { leg, offset }).map(Into::into)
+pub fn place_of_runner(sheet: &[u8], list: &[i64], runner: [u64; 3]) -> Result<[i64; 3], Refusal> {
+    station::place_of_runner(sheet, list, typed(runner)).map(Into::into)
 }
 
-/// Leg, offset.
-pub fn runner_at_tick(sheet: &[u8], tick: u64) -> Result<[u64; 2], Refusal> {
-    station::runner_at_tick(sheet, tick).map(|runner| [runner.leg, runner.offset])
+/// Leg, offset, laps.
+pub fn runner_at_tick(sheet: &[u8], tick: u64) -> Result<[u64; 3], Refusal> {
+    station::runner_at_tick(sheet, tick).map(|runner| plain(&runner))
 }
 
-/// Leg and offset, moved on in place.
-pub fn step(sheet: &[u8], runner: &mut [u64; 2]) -> Result<(), Refusal> {
-    let mut moved = Runner { leg: runner[0], offset: runner[1] };
+/// Leg, offset and laps, moved on in place.
+pub fn step(sheet: &[u8], runner: &mut [u64; 3]) -> Result<(), Refusal> {
+    let mut moved = typed(*runner);
     let answer = station::step(sheet, &mut moved);
-    *runner = [moved.leg, moved.offset];
+    *runner = plain(&moved);
     answer
 }
 
-/// Leg and offset, moved back in place.
-pub fn back(sheet: &[u8], runner: &mut [u64; 2]) -> Result<(), Refusal> {
-    let mut moved = Runner { leg: runner[0], offset: runner[1] };
+/// Leg, offset and laps, moved back in place.
+pub fn back(sheet: &[u8], runner: &mut [u64; 3]) -> Result<(), Refusal> {
+    let mut moved = typed(*runner);
     let answer = station::back(sheet, &mut moved);
-    *runner = [moved.leg, moved.offset];
+    *runner = plain(&moved);
     answer
 }
 
-/// North, east, up; the fleet, leg and offset of each seat in turn, and the turn are moved on in place.
+/// North, east, up; the fleet, leg, offset and laps of each seat in turn, and the turn are moved on in place.
 pub fn round(sheet: &[u8], list: &[i64], fleet: &mut [u64], turn: &mut u64) -> Result<[i64; 3], Refusal> {
-    let mut seats: Vec<Runner> = fleet.chunks(2).map(|seat| Runner { leg: seat[0], offset: seat[1] }).collect();
+    let mut seats: Vec<Runner> = fleet.chunks(3).map(|seat| typed([seat[0], seat[1], seat[2]])).collect();
     let mut lent = Fleet::at(&mut seats, *turn);
     let answer = lent.round(sheet, list).map(Into::into);
     *turn = lent.turn();
-    for (record, seat) in fleet.chunks_mut(2).zip(lent.seats()) {
-        record.copy_from_slice(&[seat.leg, seat.offset]);
+    for (record, seat) in fleet.chunks_mut(3).zip(lent.seats()) {
+        record.copy_from_slice(&plain(seat));
     }
     answer
 }

@@ -54,11 +54,12 @@ fn on_foot(options: &Options, comparison: &mut Comparison, sheet: &[u8]) {
     let Some(course) = comparison.course(sheet) else { return };
     let legs: Vec<u64> = course.legs.iter().map(|leg| *leg as u64).collect();
     let count = (u128::from(TEN_YEARS) * u128::from(options.steps) / u128::from(DEFAULT_STEPS)).max(1) as u64;
-    let (mut runner, mut counted) = ([0, 0], [0, 0]);
+    let (mut runner, mut counted) = ([0; 3], [0; 3]);
     for tick in 1..=count {
         counted[1] += 1;
         if counted[1] == legs[counted[0] as usize] {
-            counted = [(counted[0] + 1) % legs.len() as u64, 0];
+            let over = counted[0] + 1 == legs.len() as u64;
+            counted = if over { [0, 0, counted[2] + 1] } else { [counted[0] + 1, 0, counted[2]] };
         }
         let answer = wrapper::step(sheet, &mut runner);
         comparison
@@ -69,7 +70,10 @@ fn on_foot(options: &Options, comparison: &mut Comparison, sheet: &[u8]) {
     let backs = count.div_ceil(100);
     for tick in (count - backs..count).rev() {
         if counted[1] == 0 {
-            counted[0] = counted[0].checked_sub(1).unwrap_or(legs.len() as u64 - 1);
+            if counted[0] == 0 {
+                counted = [legs.len() as u64, 0, counted[2] - 1];
+            }
+            counted[0] -= 1;
             counted[1] = legs[counted[0] as usize];
         }
         counted[1] -= 1;
@@ -85,7 +89,7 @@ fn on_foot(options: &Options, comparison: &mut Comparison, sheet: &[u8]) {
 fn far_ticks(options: &Options, comparison: &mut Comparison, random: &mut Random, sheet: &[u8]) {
     let Some(course) = comparison.course(sheet) else { return };
     let ticks = course.ticks() as u64;
-    let before = Lent { list: vec![0; 3 * course.n], words: vec![1; 2], place: vec![1; 3], ..Lent::default() };
+    let before = Lent { list: vec![0; 3 * course.n], words: vec![1; 3], place: vec![1; 3], ..Lent::default() };
     let (_, laid_out) = comparison.compare(&Call::LayOut, sheet, &before);
     for case in 0..(options.cases / 100).max(10) {
         comparison.case = case;
@@ -97,8 +101,8 @@ fn far_ticks(options: &Options, comparison: &mut Comparison, random: &mut Random
         let place = comparison.compare(&Call::PlaceAtTick { tick }, sheet, &laid_out);
         let runner = comparison.compare(&Call::RunnerAtTick { tick }, sheet, &laid_out);
         let near = comparison.compare(&Call::PlaceAtTick { tick: tick % ticks }, sheet, &laid_out);
-        let [leg, offset] = [runner.1.words[0], runner.1.words[1]];
-        let by_runner = comparison.compare(&Call::PlaceOfRunner { leg, offset }, sheet, &laid_out);
+        let runner = [0, 1, 2].map(|number| runner.1.words[number]);
+        let by_runner = comparison.compare(&Call::PlaceOfRunner { runner }, sheet, &laid_out);
         comparison.require(place.0 == 0 && place == near && place == by_runner, || {
             format!("tick {tick}: {place:?}, modulo P {near:?}, by runner {by_runner:?}")
         });
@@ -136,7 +140,7 @@ fn there_and_back(comparison: &mut Comparison, sheet: &[u8], from: u64, count: u
 fn to_the_end(comparison: &mut Comparison, sheet: &[u8]) {
     let Some(course) = comparison.course(sheet) else { return };
     let ticks = course.ticks() as u64;
-    let mut runner = [0, 0];
+    let mut runner = [0; 3];
     for count in 1..=ticks + 100 {
         let answer = wrapper::step(sheet, &mut runner).map_err(|refusal| refusal.number());
         let wanted = wrapper::runner_at_tick(sheet, count.min(ticks));
