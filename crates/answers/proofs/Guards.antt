@@ -4,16 +4,17 @@ use mathlib.Core.Path.{_≡_, refl, sym, ap, _∙_}
 use mathlib.Core.Bool.{Bool, true, false, cond}
 use mathlib.Core.List.{List}
 use mathlib.Core.Logic.{⊎-elim}
-use Prim.Native.Nat.{ℕ}
+use Prim.Native.Nat.{ℕ, _≤_}
 use native.Mathlib.Omega.{arith}
 use lib.Dec.{eqb}
 use borrow.Author.Tests.{eq-eqb, ne-eqb}
 use Rattle.sheet.specs.Answers.{Told, told, refused}
-use Rattle.sheet.specs.Reading.{Accepted, readSheet}
+use Rattle.sheet.specs.Fields.{points}
+use Rattle.sheet.specs.Reading.{Accepted, mostPoints, readBy, readSheet}
 use Rattle.sheet.specs.declared.Reading.{Reading}
 use Rattle.sheet.specs.declared.Reading.the-variants as R
 use Rattle.sheet.specs.declared.Refusal.{Refusal}
-use Rattle.sheet.proofs.Laws.{accepted-read, read-or-refused}
+use Rattle.sheet.proofs.Laws.{within-read, read-or-refused, accepted-bounds}
 use Rattle.sheet.proofs.Told.{number-positive, told-injective}
 use Rattle.answers.specs.Answers.{passOn, guard, Carries}
 
@@ -31,21 +32,26 @@ pub not-refused : (b : Bool) (r : Refusal) (rest : Told) → guard b r rest .num
 not-refused true r rest e = never-zero r e
 not-refused false r rest e = (refl, e)
 
--- ---- reading in front of a call's tests (A8): its refusal as the code has it, an accepted sheet, and a call that is not refused
-module _ (s : List ℕ) where
-  pub passed-on : (answer : Reading) → told answer ≡ told (readSheet s) → (q r : Refusal) (rest : Told) → answer ≡ R.Refused q → Carries answer r
-      → refused r ≡ passOn (readSheet s) rest
-  passed-on answer e q r rest a b = ap refused (b q a) ∙ ap (λ x. passOn x rest) (sym a ∙ told-injective answer (readSheet s) e)
+-- ---- reading in front of a call's tests (A8), by any limit: its refusal as the code has it, and an accepted sheet
+module _ (limit : ℕ) (s : List ℕ) where
+  pub passed-on : (answer : Reading) → told answer ≡ told (readBy limit s) → (q r : Refusal) (rest : Told) → answer ≡ R.Refused q → Carries answer r
+      → refused r ≡ passOn (readBy limit s) rest
+  passed-on answer e q r rest a b = ap refused (b q a) ∙ ap (λ x. passOn x rest) (sym a ∙ told-injective answer (readBy limit s) e)
 
+  pub within-on : Accepted s → points s ≤ limit → (rest : Told) → rest ≡ passOn (readBy limit s) rest
+  within-on a h rest = sym (ap (λ x. passOn x rest) (within-read limit s a h))
+
+-- ---- at the station: an accepted sheet, which is always within its limit, and a call that is not refused
+module _ (s : List ℕ) where
   pub read-on : Accepted s → (rest : Told) → rest ≡ passOn (readSheet s) rest
-  read-on a rest = sym (ap (λ x. passOn x rest) (accepted-read s a))
+  read-on a rest = within-on mostPoints s a (accepted-bounds s a .few) rest
 
   pub not-passed-on : (rest : Told) → passOn (readSheet s) rest .number ≡ 0 → Accepted s × (rest .number ≡ 0)
   not-passed-on rest z =
       ⊎-elim
       (λ a. (a .0, sym (ap (λ x. passOn x rest .number) (a .1)) ∙ z))
       (λ a. never-zero (a .0) (sym (ap (λ x. passOn x rest .number) (a .1 .answer)) ∙ z))
-      (read-or-refused s)
+      (read-or-refused mostPoints s)
 
 -- ---- what is left: the new where the call is done, the old where it is refused
 module _ {A : Type 0} (t : Told) (new old : A) where

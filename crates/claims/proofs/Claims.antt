@@ -1,5 +1,5 @@
 -- The one proof of all claims: it names each theorem.
-use Rattle.sheet.proofs.Laws.{read-or-refused, read-accepted, accepted-bounds, heights-kept}
+use Rattle.sheet.proofs.Laws.{read-or-refused, read-accepted, never-at-station, read-alike, accepted-bounds, heights-kept}
 use Rattle.lists.proofs.Worked.{answers-tried}
 use Rattle.writer.proofs.Worked.{sheet-tried}
 use Rattle.written.proofs.Accepted.{written-accepted}
@@ -37,7 +37,10 @@ use Rattle.drawn.proofs.Drawn.{strokes-drawn, room-for-all}
 use Rattle.drawn.proofs.Near.{own-drawn, strokes-near}
 use Rattle.drawn.proofs.Worked.{strokes-tried}
 use Rattle.place.proofs.Waypoints.{tick-is-runner, leg-ends-met, waypoint-met-at-tick, waypoint-met-by-runner}
-use Rattle.station.proofs.Claim.{claim}
+use Rattle.station.proofs.Claim.{claim, claim-by}
+use Rattle.station.proofs.Alike.{within-both}
+use Rattle.board.proofs.Theorems.{board-refuses, board-alike, board-claim, board-room}
+use Rattle.board.proofs.Worked.{board-tried}
 use Rattle.station.proofs.Own.{own-laid}
 use Rattle.courses.proofs.Longest.{longest}
 use Rattle.courses.proofs.Starred.{starred-right}
@@ -58,6 +61,8 @@ claims = record {
   demand1 = record {
     read-or-refused = read-or-refused;
     read-accepted = read-accepted;
+    board-refuses = board-refuses;
+    never-at-station = never-at-station;
     refusal-passed-on = refusal-passed-on;
     refused-keeps-list = refused-keeps-list;
     refused-keeps-record = refused-keeps-record;
@@ -112,6 +117,10 @@ claims = record {
     kept-or-cut = kept-or-cut;
     eight-cuts = eight-cuts;
     strokes-drawn = strokes-drawn;
+    read-alike = read-alike;
+    within-both = within-both;
+    board-alike = board-alike;
+    board-room = board-room;
     accepted-output = accepted-output;
     every-tick = every-tick;
     line-one = line-one;
@@ -133,10 +142,13 @@ claims = record {
     rounds-tried = rounds-tried;
     strokes-tried = strokes-tried;
     laps-tried = laps-tried;
+    board-tried = board-tried;
     chord-not-near = chord-not-near;
   };
   demand3 = claim;
   own-laid = own-laid;
+  claim-by = claim-by;
+  board-claim = board-claim;
   joined-near = joined-near;
   served-near = served-near;
   flying-served = flying-served;

@@ -7,11 +7,11 @@ use Rattle.writer.specs.Writing.{writtenInto}
 use Rattle.answers.proofs.Guards.{read-on, number-keeps, refused-keeps}
 use Rattle.answers.specs.Answers.{done}
 use Rattle.join.specs.Joining.{joinSheets, joinedInto}
-use Rattle.layout.specs.Layout.{layOut, laidOut}
-use Rattle.runner.specs.Ticks.{runnerAtTick}
-use Rattle.runner.specs.Steps.{moved, stepped, onward}
+use Rattle.layout.specs.Layout.{layOutBy, laidOutBy}
+use Rattle.runner.specs.Ticks.{runnerAtTickBy}
+use Rattle.runner.specs.Steps.{moved, steppedBy, onwardBy}
 use Rattle.runner.specs.Backs.{movedBack, backed, backward}
-use Rattle.place.specs.Places.{placeAtTick, placeOfRunner}
+use Rattle.place.specs.Places.{placeAtTickBy, placeOfRunnerBy}
 use Rattle.seat.specs.Serving.{admitted, nextTurn, served, turnAfter}
 use Rattle.fleet.proofs.Lent.{fleet-kept}
 use Rattle.fleet.proofs.Triples.{numbers-kept}
@@ -19,27 +19,31 @@ use Rattle.strokes.specs.Strokes.{strokesAnswer, drawnInto}
 use Rattle.claims.specs.Refused.{RefusalPassedOn, RefusedKeepsList, RefusedKeepsRecord, RefusedKeepsFleet, RefusedKeepsEnds, RefusedKeepsSlice}
 
 pub refusal-passed-on : RefusalPassedOn
-unfolding layOut placeAtTick placeOfRunner runnerAtTick stepped backed served turnAfter strokesAnswer joinSheets
-refusal-passed-on s q e = record {
-  laying = λ room. rw e;
-  by-tick = λ list t. rw e;
-  by-runner = λ list r. rw e;
-  from-tick = λ t. rw e;
-  step = λ r. rw e;
-  back = λ r. rw e;
-  round = λ list fleet t. let k = length fleet in (rw e, refused-keeps (admitted s list k t done) (nextTurn k t ∷ []) [] q (rw e));
-  strokes = λ list tolerance room. rw e;
-  join-first = λ t room. rw e;
-  join-second = λ t room a. sym (read-on t a _) ∙ rw e;
-}
+unfolding layOutBy placeAtTickBy placeOfRunnerBy runnerAtTickBy steppedBy backed served turnAfter strokesAnswer joinSheets
+refusal-passed-on s q = (
+  (λ limit e. record {
+    laying = λ room. rw e;
+    by-tick = λ list t. rw e;
+    by-runner = λ list r. rw e;
+    from-tick = λ t. rw e;
+    step = λ r. rw e;
+  }),
+  (λ e. record {
+    back = λ r. rw e;
+    round = λ list fleet t. let k = length fleet in (rw e, refused-keeps (admitted s list k t done) (nextTurn k t ∷ []) [] q (rw e));
+    strokes = λ list tolerance room. rw e;
+    join-first = λ t room. rw e;
+    join-second = λ t room a. sym (read-on t a _) ∙ rw e;
+  }),
+)
 
 pub refused-keeps-list : RefusedKeepsList
-unfolding laidOut
-refused-keeps-list s list = number-keeps (layOut s (length list)) _ list
+unfolding laidOutBy
+refused-keeps-list limit s list = number-keeps (layOutBy limit s (length list)) _ list
 
 pub refused-keeps-record : RefusedKeepsRecord
-unfolding onward backward
-refused-keeps-record s r = (number-keeps (stepped s r) (moved s r) r, number-keeps (backed s r) (movedBack s r) r)
+unfolding onwardBy backward
+refused-keeps-record s r = ((λ limit. number-keeps (steppedBy limit s r) (moved s r) r), number-keeps (backed s r) (movedBack s r) r)
 
 pub refused-keeps-fleet : RefusedKeepsFleet
 refused-keeps-fleet s list t = ((λ fleet. fleet-kept s list fleet t), (λ lent. numbers-kept s list lent t))

@@ -1,6 +1,6 @@
 -- Every theorem that docs/CLAIMS.md claims: a field for each, its type the statement, in the order of docs/REQUIREMENTS.md. The three demands are
 -- three records; demand 3 is `Claim`. The one proof is proofs/Claims.antt, so that a statement that loses its proof breaks the gate.
-use Rattle.sheet.specs.Theorems.{ReadOrRefused, ReadAccepted, AcceptedBounds, HeightsKept}
+use Rattle.sheet.specs.Theorems.{ReadOrRefused, ReadAccepted, NeverAtStation, ReadAlike, AcceptedBounds, HeightsKept}
 use Rattle.lists.specs.Worked.{AnswersTried}
 use Rattle.writer.specs.Worked.{SheetTried}
 use Rattle.written.specs.Theorems.{WrittenAccepted, WrittenAgain}
@@ -21,7 +21,10 @@ use Rattle.stretch.specs.Theorems.{KeptOrCut, EightCuts}
 use Rattle.drawn.specs.Theorems.{PlacesGiven, StrokesDrawn, RoomForAll, OwnDrawn, StrokesNear}
 use Rattle.drawn.specs.Worked.{StrokesTried}
 use Rattle.place.specs.Theorems.{LegEndsMet, WaypointMetAtTick, WaypointMetByRunner, TickIsRunner}
-use Rattle.station.specs.Claim.{Claim, OwnLaid}
+use Rattle.station.specs.Claim.{Claim, ClaimBy, OwnLaid}
+use Rattle.station.specs.Alike.{WithinBoth}
+use Rattle.board.specs.Theorems.{BoardRefuses, BoardAlike, BoardClaim, BoardRoom}
+use Rattle.board.specs.Worked.{BoardTried}
 use Rattle.courses.specs.Starred.{StarredRight}
 use Rattle.courses.specs.Theorems.{ChordNotNear, FreePairUnbent, Longest}
 use Rattle.mirror.specs.Theorems.{PassesMirrored, BendsMirrored, PositionMirrored, SheetMirrored}
@@ -32,10 +35,13 @@ use Rattle.claims.specs.Refused.{RefusalPassedOn, RefusedKeepsList, Refu
 
 -- D1: a bad input gets its number, and a refused call changes nothing. (That calls end and are safe is proved of every function, by the checker itself.)
 pub record Demand1 : Type 0 where
-  -- A1, A2: a sheet is read, or refused by the lowest number that applies
+  -- A1, A2, A16: by a reader of whatever limit a sheet is read, or refused by the first number that applies
   pub read-or-refused : ReadOrRefused
   -- A2, A10: what is read is accepted, and the answer is its fields
   pub read-accepted : ReadAccepted
+  -- N23: the sheets that the board refuses with it; the station none
+  pub board-refuses : BoardRefuses
+  pub never-at-station : NeverAtStation
   -- A8
   pub refusal-passed-on : RefusalPassedOn
   -- A9
@@ -124,6 +130,12 @@ pub record Demand2 : Type 0 where
   pub eight-cuts : EightCuts
   -- H4 to H6
   pub strokes-drawn : StrokesDrawn
+  -- B3: within the limit as the station; and by any two limits
+  pub read-alike : ReadAlike
+  pub within-both : WithinBoth
+  pub board-alike : BoardAlike
+  -- B5
+  pub board-room : BoardRoom
   -- T2: the output of an accepted sheet, with a line for every tick
   pub accepted-output : AcceptedOutput
   pub every-tick : EveryTick
@@ -160,6 +172,8 @@ pub record Demand2 : Type 0 where
   pub strokes-tried : StrokesTried
   -- W20
   pub laps-tried : LapsTried
+  -- W21
+  pub board-tried : BoardTried
   -- K4, K8: zeros in place of bend numbers fail on tenfold A
   pub chord-not-near : ChordNotNear
 
@@ -191,6 +205,9 @@ pub record Claims : Type 0 where
   pub demand3 : Claim
   -- C1: own bend numbers are there after a laying out
   pub own-laid : OwnLaid
+  -- B4: by a reader of whatever limit, and so on the board
+  pub claim-by : ClaimBy
+  pub board-claim : BoardClaim
   -- J5: of joined sheets
   pub joined-near : JoinedNear
   -- Q7: of a fleet's places

@@ -5,30 +5,33 @@ use Prim.Native.Nat.{ℕ}
 use lib.IntN.{ℤ}
 use lib.ListN.{length}
 use Rattle.sheet.specs.Answers.{refused}
-use Rattle.sheet.specs.Reading.{Accepted, readSheet}
+use Rattle.sheet.specs.Reading.{Accepted, readBy, readSheet}
 use Rattle.sheet.specs.declared.Reading.the-variants.{Refused}
 use Rattle.sheet.specs.declared.Refusal.{Refusal}
 use Rattle.lists.specs.Lists.{Lists}
 use Rattle.lists.specs.Answer.{writeSheet}
 use Rattle.writer.specs.Writing.{writtenInto}
 use Rattle.join.specs.Joining.{joinSheets, joinedInto}
-use Rattle.layout.specs.Layout.{layOut, laidOut}
-use Rattle.runner.specs.Ticks.{runnerAtTick}
-use Rattle.runner.specs.Steps.{stepped, onward}
+use Rattle.layout.specs.Layout.{layOutBy, laidOutBy}
+use Rattle.runner.specs.Ticks.{runnerAtTickBy}
+use Rattle.runner.specs.Steps.{steppedBy, onwardBy}
 use Rattle.runner.specs.Backs.{backed, backward}
 use Rattle.runner.specs.declared.Runner.{Runner}
-use Rattle.place.specs.Places.{placeAtTick, placeOfRunner}
+use Rattle.place.specs.Places.{placeAtTickBy, placeOfRunnerBy}
 use Rattle.fleet.specs.Round.{roundAnswer, turnGiven, fleetAfter}
 use Rattle.fleet.specs.Numbers.{records, numbersAfter}
 use Rattle.strokes.specs.Strokes.{strokesAnswer, drawnInto}
 
--- A8: where reading refuses the sheet, each call answers that refusal and nothing else
+-- A8: where reading refuses the sheet, each call answers that refusal and nothing else: those of a reader with any limit ..
+pub record PassedOnBy (limit : ℕ) (s : List ℕ) (q : Refusal) : Type 0 where
+  pub laying : (room : ℕ) → layOutBy limit s room ≡ refused q
+  pub by-tick : (list : List ℤ) (t : ℕ) → placeAtTickBy limit s list t ≡ refused q
+  pub by-runner : (list : List ℤ) (r : Runner) → placeOfRunnerBy limit s list r ≡ refused q
+  pub from-tick : (t : ℕ) → runnerAtTickBy limit s t ≡ refused q
+  pub step : (r : Runner) → steppedBy limit s r ≡ refused q
+
+-- .. and those that the station alone has
 pub record PassedOn (s : List ℕ) (q : Refusal) : Type 0 where
-  pub laying : (room : ℕ) → layOut s room ≡ refused q
-  pub by-tick : (list : List ℤ) (t : ℕ) → placeAtTick s list t ≡ refused q
-  pub by-runner : (list : List ℤ) (r : Runner) → placeOfRunner s list r ≡ refused q
-  pub from-tick : (t : ℕ) → runnerAtTick s t ≡ refused q
-  pub step : (r : Runner) → stepped s r ≡ refused q
   pub back : (r : Runner) → backed s r ≡ refused q
   pub round : (list : List ℤ) (fleet : List Runner) (t : ℕ) → (roundAnswer s list fleet t ≡ refused q) × (turnGiven s list fleet t ≡ [])
   pub strokes : (list : List ℤ) (tolerance : ℤ) (room : ℕ) → strokesAnswer s list tolerance room ≡ refused q
@@ -37,15 +40,16 @@ pub record PassedOn (s : List ℕ) (q : Refusal) : Type 0 where
   pub join-second : (t : List ℕ) (room : ℕ) → Accepted t → joinSheets t s room ≡ refused q
 
 abbrev pub RefusalPassedOn : Type 0
-RefusalPassedOn = (s : List ℕ) (q : Refusal) → readSheet s ≡ Refused q → PassedOn s q
+RefusalPassedOn = (s : List ℕ) (q : Refusal) → ((limit : ℕ) → readBy limit s ≡ Refused q → PassedOnBy limit s q) × (readSheet s ≡ Refused q → PassedOn s q)
 
 -- A9: a refused laying out leaves the list as it was ..
 abbrev pub RefusedKeepsList : Type 0
-RefusedKeepsList = (s : List ℕ) (list : List ℤ) → ¬ (layOut s (length list) .number ≡ 0) → laidOut s list ≡ list
+RefusedKeepsList = (limit : ℕ) (s : List ℕ) (list : List ℤ) → ¬ (layOutBy limit s (length list) .number ≡ 0) → laidOutBy limit s list ≡ list
 
 -- .. a refused step and a refused back the record ..
 abbrev pub RefusedKeepsRecord : Type 0
-RefusedKeepsRecord = (s : List ℕ) (r : Runner) → (¬ (stepped s r .number ≡ 0) → onward s r ≡ r) × (¬ (backed s r .number ≡ 0) → backward s r ≡ r)
+RefusedKeepsRecord = (s : List ℕ) (r : Runner)
+    → ((limit : ℕ) → ¬ (steppedBy limit s r .number ≡ 0) → onwardBy limit s r ≡ r) × (¬ (backed s r .number ≡ 0) → backward s r ≡ r)
 
 -- .. a refused round all records, and at the C boundary all numbers ..
 abbrev pub RefusedKeepsFleet : Type 0

@@ -12,7 +12,7 @@ use Rattle.integers.proofs.Order.{abs-mul}
 use Rattle.rounding.specs.Rounded.{rounded}
 use Rattle.ends.specs.declared.EndKind.the-variants.{Free}
 use Rattle.sheet.specs.Bytes.{be16, be32, signed32, anyBelow, sumBelow}
-use Rattle.sheet.specs.Reading.{Accepted, readBy}
+use Rattle.sheet.specs.Reading.{Accepted, readBy, mostPoints}
 use Rattle.sheet.proofs.Laws.{read-accepted}
 use Rattle.systems.specs.Passes.{target, renewed, turn, sweep, pass, passes}
 use Rattle.spline.specs.Spline.{Cubic, Curve, Exact, SameCubic, SameCurve, valueAt, firstAt, secondAt, legs, next, prev, stepAfter, stepBefore, innerRow, freeRow, along, rowOf, rowsBy, bends}
@@ -21,15 +21,15 @@ use Rattle.spline.proofs.Examples.{cubic, curve, exact-by}
 use Rattle.spline.proofs.OneCurve.{one-curve}
 use Rattle.spline.proofs.RowKinds.{free-pair-zeros}
 use Rattle.layout.specs.Course.{course}
-use Rattle.layout.specs.Layout.{allBends, layOut, laidOut}
+use Rattle.layout.specs.Layout.{allBends, layOutBy, laidOutBy}
 use Rattle.layout.proofs.Near.{course-in-bounds}
 use Rattle.runner.specs.Ticks.{walk, spotAt}
-use Rattle.place.specs.Places.{bendOutside, placeOn, placeAtTick}
+use Rattle.place.specs.Places.{bendOutside, placeOn, placeAtTickBy}
 use Rattle.courses.specs.Theorems.{tenfold, ChordNotNear, FreePairUnbent}
 
 accepted : Accepted tenfold
 unfolding readBy be16 be32 signed32 anyBelow sumBelow
-accepted = read-accepted tenfold Free 3 4 refl .0
+accepted = read-accepted mostPoints tenfold Free 3 4 refl .0
 
 -- 60u - 5uuu, then 80 - 30uu + 5uuu
 abbrev tenCurve : Curve
@@ -59,7 +59,7 @@ not-near f e near = omega (
 )
 
 pub chord-not-near : ChordNotNear
-unfolding rounded target renewed turn sweep pass passes be16 be32 signed32 anyBelow sumBelow readBy next prev stepAfter stepBefore innerRow freeRow along rowOf rowsBy numerator position course allBends layOut laidOut walk spotAt bendOutside placeOn placeAtTick
+unfolding rounded target renewed turn sweep pass passes be16 be32 signed32 anyBelow sumBelow readBy next prev stepAfter stepBefore innerRow freeRow along rowOf rowsBy numerator position course allBends layOutBy laidOutBy walk spotAt bendOutside placeOn placeAtTickBy
 chord-not-near = record { bent = refl; chord = refl; far = not-near }
 
 pub free-pair-unbent : FreePairUnbent

@@ -24,7 +24,7 @@ use Rattle.layout.specs.Layout.{short}
 use Rattle.runner.specs.Ticks.{runner, spotAt}
 use Rattle.runner.specs.Steps.{adrift}
 use Rattle.runner.proofs.Standing.{on-leg, not-adrift, has-legs}
-use Rattle.place.specs.Places.{bendOutside, placeOfRunner}
+use Rattle.place.specs.Places.{bendOutside, placeOfRunnerBy}
 use Rattle.station.specs.Claim.{Own, Answers}
 use Rattle.station.proofs.Claim.{claim}
 use Rattle.stretch.specs.Theorems.{Within}
@@ -38,7 +38,7 @@ use Rattle.drawn.proofs.PlacesGiven.{given-placed}
 module _ (s : List ℕ) (a : Accepted s) (list : List ℤ) (own : Own s list) where
   -- a leg's first runner gets its place, so that neither 9 nor 12 applies there
   leg-answered : (i : ℕ) → i < legs s → (short s (length list) ≡ false) × (bendOutside s list i ≡ false)
-  unfolding placeOfRunner
+  unfolding placeOfRunnerBy
   leg-answered i h =
       let r = runner i 0 in
       let z = ap (λ (x : Told). x .number) (claim s a .by-runner list own r (not-adrift s r (on-leg h (accepted-bounds s a .leg-low i h) (λ _. refl))) .place) in

@@ -26,7 +26,7 @@ use Rattle.layout.specs.Layout.{short}
 use Rattle.runner.specs.Ticks.{runner, reduced, past, spotAt, tickOf}
 use Rattle.runner.specs.declared.Runner.{Runner}
 use Rattle.runner.proofs.Standing.{on-leg, standing, not-adrift, leg-below, tick-before, no-lap-flown, spot-of, tick-stands}
-use Rattle.place.specs.Places.{endOf, bendOutside, placeOn, placed, placeAtTick, placeOfRunner}
+use Rattle.place.specs.Places.{endOf, bendOutside, placeOn, placed, placeAtTick, placeOfRunner, placeOfRunnerBy}
 use Rattle.place.proofs.Ends.{end-met}
 use Rattle.place.proofs.Waypoints.{tick-is-runner, waypoint-met-at-tick}
 use Rattle.strokes.specs.Strokes.{placesOn}
@@ -72,7 +72,7 @@ module _ (s : List ℕ) (a : Accepted s) (list : List ℤ) (room : short s (leng
   not-past t h = rw (le-ltb (ticks s) t h, and-false)
 
   before-end : (i u : ℕ) → i < legs s → u < leg s i → placeAtTick s list (sumBelow (leg s) i + u) ≡ placed s list (runner i u)
-  unfolding tickOf placeOfRunner
+  unfolding tickOf placeOfRunnerBy
   before-end i u h k =
       let r = runner i u in let stands = on-leg h k (λ _. refl) in
       tick-is-runner s list (tickOf s r) (not-past (tickOf s r) (omega (arith, tick-before s r h k)))

@@ -1,76 +1,33 @@
-// The C boundary (include/station.h): the station's calls on numbers and slices. A slice is a pointer, then a length. Each function answers 0 or a number
-// of group N, and writes its results only when it answers 0 (Q3's turn excepted) and the lent slice has room for them.
-use answers::Outcome;
-use ends::EndKind;
+// The station's C boundary (include/station.h): the station's calls on numbers and slices, six of them crate boundary's. A slice is a pointer, then a length. Each
+// function answers 0 or a number of group N, and writes its results only when it answers 0 (Q3's turn excepted) and the lent slice has room for them.
+use boundary::no_runner;
+use boundary::tell_place;
+use boundary::tell_runner;
 use lists::Written;
-use place::Placed;
 use runner::Runner;
-use runner::RunnerAnswer;
 use seat::NextTurn;
-use sheet::Reading;
-use sheet::Refusal;
+use sheet::MOST_POINTS;
 use sheet::number_of;
 use strokes::StrokesAnswer;
 ghost use mathlib.Core.Path.{_≡_};
 ghost use mathlib.Core.List.{[], _∷_};
 ghost use lib.ListN.{length};
-ghost use Rattle.ends.specs.Ends.{kindNumber};
 ghost use Rattle.sheet.specs.Answers.{told};
-ghost use Rattle.sheet.specs.Reading.{readSheet};
+ghost use Rattle.sheet.specs.Reading.{mostPoints, readSheet};
 ghost use Rattle.lists.specs.Lists.{lists};
 ghost use Rattle.lists.specs.Answer.{toldWritten, writeSheet};
 ghost use Rattle.writer.specs.Writing.{writtenInto};
 ghost use Rattle.join.specs.Joining.{joinSheets, joinedInto};
 ghost use Rattle.layout.specs.Layout.{layOut, laidOut};
-ghost use Rattle.runner.specs.Ticks.{runner, atLap, toldRunner, runnerAtTick};
+ghost use Rattle.runner.specs.Ticks.{runner, atLap, runnerAtTick};
 ghost use Rattle.runner.specs.Steps.{stepped};
 ghost use Rattle.runner.specs.Backs.{backed};
-ghost use Rattle.place.specs.Places.{toldPlaced, placeAtTick, placeOfRunner};
+ghost use Rattle.place.specs.Places.{placeAtTick, placeOfRunner};
 ghost use Rattle.seat.specs.Serving.{toldNext};
 ghost use Rattle.fleet.specs.Round.{roundAnswer, turnGiven};
 ghost use Rattle.fleet.specs.Numbers.{records, numbersAfter};
 ghost use Rattle.strokes.specs.Strokes.{toldStrokes, strokesAnswer, drawnInto};
-ghost use Rattle.exports.specs.Written.{put, written, writtenUnsigned, noRunner, movedSlice};
-
-// S4: the number of a kind.
-fn kind_number(kind: EndKind) -> u64
-    ensures { λ r. ⌜ r ≡ kindNumber kind ⌝ }
-{
-    match kind {
-        EndKind::Free => 0,
-        EndKind::Held => 1,
-        EndKind::Closed => 2,
-    }
-}
-
-// Results at the front of a slice that has room for them: three unsigned, one unsigned, three signed.
-fn put_three(out: &mut [u64], a: u64, b: u64, c: u64)
-    ensures { λ _. ⌜ now (out .exit) ≡ put (a ∷ b ∷ c ∷ []) (now (out .entry)) ⌝ }
-{
-    if 3 <= out.len() {
-        out[0] = a;
-        out[1] = b;
-        out[2] = c;
-    }
-}
-
-fn put_one(out: &mut [u64], a: u64)
-    ensures { λ _. ⌜ now (out .exit) ≡ put (a ∷ []) (now (out .entry)) ⌝ }
-{
-    if 1 <= out.len() {
-        out[0] = a;
-    }
-}
-
-fn put_place(out: &mut [i64], a: i64, b: i64, c: i64)
-    ensures { λ _. ⌜ now (out .exit) ≡ put (a ∷ b ∷ c ∷ []) (now (out .entry)) ⌝ }
-{
-    if 3 <= out.len() {
-        out[0] = a;
-        out[1] = b;
-        out[2] = c;
-    }
-}
+ghost use Rattle.boundary.specs.Written.{put, written, writtenUnsigned, movedSlice};
 
 // out = kind, N, P
 #[no_mangle]
@@ -78,17 +35,7 @@ pub extern "C" fn station_read(sheet: &[u8], out: &mut [u64]) -> u64
     ensures answer { λ r. ⌜ r ≡ told (readSheet (now (sheet .entry))) .number ⌝ }
     ensures out { λ r. ⌜ now (out .exit) ≡ writtenUnsigned (told (readSheet (now (sheet .entry)))) (now (out .entry)) ⌝ }
 {
-    match sheet::read(sheet) {
-        Reading::Course {
-            kind,
-            points,
-            ticks,
-        } => {
-            put_three(out, kind_number(kind), points as u64, ticks);
-            0
-        }
-        Reading::Refused(r) => number_of(r),
-    }
+    boundary::read(MOST_POINTS, sheet, out)
 }
 
 #[no_mangle]
@@ -96,27 +43,7 @@ pub extern "C" fn station_lay_out(sheet: &[u8], list: &mut [i64]) -> u64
     ensures answer { λ r. ⌜ r ≡ layOut (now (sheet .entry)) (length (now (list .entry))) .number ⌝ }
     ensures list { λ r. ⌜ now (list .exit) ≡ laidOut (now (sheet .entry)) (now (list .entry)) ⌝ }
 {
-    match layout::lay_out(sheet, list) {
-        Outcome::Done => 0,
-        Outcome::Refused(r) => number_of(r),
-    }
-}
-
-// The place into the slice, or the refusal's number.
-fn tell_place(answer: Placed, out: &mut [i64]) -> u64
-    ensures answer { λ r. ⌜ r ≡ toldPlaced answer .number ⌝ }
-    ensures out { λ r. ⌜ now (out .exit) ≡ written (toldPlaced answer) (now (out .entry)) ⌝ }
-{
-    let outcome = answer.outcome;
-    let place = answer.place;
-    let at = place.at;
-    match outcome {
-        Outcome::Done => {
-            put_place(out, at[0], at[1], at[2]);
-            0
-        }
-        Outcome::Refused(r) => number_of(r),
-    }
+    boundary::lay_out(MOST_POINTS, sheet, list)
 }
 
 // out = north, east, up
@@ -130,8 +57,7 @@ pub extern "C" fn station_place_at_tick(
     ensures answer { λ r. ⌜ r ≡ placeAtTick (now (sheet .entry)) (now (list .entry)) tick .number ⌝ }
     ensures out { λ r. ⌜ now (out .exit) ≡ written (placeAtTick (now (sheet .entry)) (now (list .entry)) tick) (now (out .entry)) ⌝ }
 {
-    let answer = place::place_at_tick(sheet, list, tick);
-    tell_place(answer, out)
+    boundary::place_at_tick(MOST_POINTS, sheet, list, tick, out)
 }
 
 // out = north, east, up
@@ -147,22 +73,7 @@ pub extern "C" fn station_place_of_runner(
     ensures answer { λ r. ⌜ r ≡ placeOfRunner (now (sheet .entry)) (now (list .entry)) (atLap laps (runner leg offset)) .number ⌝ }
     ensures out { λ r. ⌜ now (out .exit) ≡ written (placeOfRunner (now (sheet .entry)) (now (list .entry)) (atLap laps (runner leg offset))) (now (out .entry)) ⌝ }
 {
-    let at = Runner { leg, offset, laps };
-    tell_place(place::place_of_runner(sheet, list, at), out)
-}
-
-// The runner into the slice, or the refusal's number.
-fn tell_runner(answer: RunnerAnswer, out: &mut [u64]) -> u64
-    ensures answer { λ r. ⌜ r ≡ toldRunner answer .number ⌝ }
-    ensures out { λ r. ⌜ now (out .exit) ≡ writtenUnsigned (toldRunner answer) (now (out .entry)) ⌝ }
-{
-    match answer {
-        RunnerAnswer::At(at) => {
-            put_three(out, at.leg, at.offset, at.laps);
-            0
-        }
-        RunnerAnswer::Refused(r) => number_of(r),
-    }
+    boundary::place_of_runner(MOST_POINTS, sheet, list, leg, offset, laps, out)
 }
 
 // out = leg, offset, laps
@@ -171,51 +82,40 @@ pub extern "C" fn station_runner_at_tick(sheet: &[u8], tick: u64, out: &mut [u64
     ensures answer { λ r. ⌜ r ≡ runnerAtTick (now (sheet .entry)) tick .number ⌝ }
     ensures out { λ r. ⌜ now (out .exit) ≡ writtenUnsigned (runnerAtTick (now (sheet .entry)) tick) (now (out .entry)) ⌝ }
 {
-    tell_runner(runner::runner_at_tick(sheet, tick), out)
-}
-
-// The answer of step and back where no runner is lent: the sheet's refusal, and otherwise adrift.
-fn no_runner(sheet: &[u8]) -> RunnerAnswer
-    ensures { λ r. ⌜ toldRunner r ≡ noRunner (now (sheet .entry)) ⌝ }
-{
-    match sheet::read(sheet) {
-        Reading::Course {
-            kind: _,
-            points: _,
-            ticks: _,
-        } => RunnerAnswer::Refused(Refusal::Adrift),
-        Reading::Refused(r) => RunnerAnswer::Refused(r),
-    }
+    boundary::runner_at_tick(MOST_POINTS, sheet, tick, out)
 }
 
 // lent = leg, offset, laps, moved on in place
 #[no_mangle]
 pub extern "C" fn station_step(sheet: &[u8], lent: &mut [u64]) -> u64
-    ensures answer { λ r. ⌜ r ≡ movedSlice stepped (now (sheet .entry)) (now (lent .entry)) .number ⌝ }
-    ensures lent { λ r. ⌜ now (lent .exit) ≡ writtenUnsigned (movedSlice stepped (now (sheet .entry)) (now (lent .entry))) (now (lent .entry)) ⌝ }
+    ensures answer { λ r. ⌜ r ≡ movedSlice mostPoints stepped (now (sheet .entry)) (now (lent .entry)) .number ⌝ }
+    ensures lent { λ r. ⌜ now (lent .exit) ≡ writtenUnsigned (movedSlice mostPoints stepped (now (sheet .entry)) (now (lent .entry))) (now (lent .entry)) ⌝ }
 {
-    if lent.len() < 3 {
-        return tell_runner(no_runner(sheet), lent);
-    }
-    let leg = lent[0];
-    let offset = lent[1];
-    let laps = lent[2];
-    tell_runner(runner::stepped(sheet, Runner { leg, offset, laps }), lent)
+    boundary::step(MOST_POINTS, sheet, lent)
 }
 
 // lent = leg, offset, laps, moved back in place
 #[no_mangle]
 pub extern "C" fn station_back(sheet: &[u8], lent: &mut [u64]) -> u64
-    ensures answer { λ r. ⌜ r ≡ movedSlice backed (now (sheet .entry)) (now (lent .entry)) .number ⌝ }
-    ensures lent { λ r. ⌜ now (lent .exit) ≡ writtenUnsigned (movedSlice backed (now (sheet .entry)) (now (lent .entry))) (now (lent .entry)) ⌝ }
+    ensures answer { λ r. ⌜ r ≡ movedSlice mostPoints backed (now (sheet .entry)) (now (lent .entry)) .number ⌝ }
+    ensures lent { λ r. ⌜ now (lent .exit) ≡ writtenUnsigned (movedSlice mostPoints backed (now (sheet .entry)) (now (lent .entry))) (now (lent .entry)) ⌝ }
 {
     if lent.len() < 3 {
-        return tell_runner(no_runner(sheet), lent);
+        return tell_runner(no_runner(MOST_POINTS, sheet), lent);
     }
     let leg = lent[0];
     let offset = lent[1];
     let laps = lent[2];
     tell_runner(runner::backed(sheet, Runner { leg, offset, laps }), lent)
+}
+
+// One result at the front of a slice that has room for it.
+fn put_one(out: &mut [u64], a: u64)
+    ensures { λ _. ⌜ now (out .exit) ≡ put (a ∷ []) (now (out .entry)) ⌝ }
+{
+    if 1 <= out.len() {
+        out[0] = a;
+    }
 }
 
 // The next turn into the slice, if there is one.

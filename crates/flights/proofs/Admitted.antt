@@ -7,11 +7,11 @@ use Prim.Native.Nat.{ℕ, _<_}
 use lib.IntN.{ℤ}
 use lib.ListN.{length}
 use borrow.Author.Tests.{leb-false}
-use Rattle.sheet.proofs.Laws.{accepted-read, read-or-refused}
+use Rattle.sheet.proofs.Laws.{accepted-read, read-or-refused, never-at-station}
 use Rattle.sheet.specs.Answers.{Told, numberOf}
 use Rattle.sheet.specs.Reading.{Accepted, applies, mostPoints, readSheet}
 use Rattle.sheet.specs.declared.Refusal.{Refusal}
-use Rattle.sheet.specs.declared.Refusal.the-variants.{Torn, Edition, Ends, Points, Size, Leg, Reach, Slope, Shelf, Past, Adrift, Bend, Landed, Page, Start, Shut, Apart, Crowded, Seats, Turn, Grain, Ink}
+use Rattle.sheet.specs.declared.Refusal.the-variants.{Torn, Edition, Ends, Points, Size, Leg, Reach, Slope, Shelf, Past, Adrift, Bend, Landed, Page, Start, Shut, Apart, Crowded, Seats, Turn, Grain, Ink, Board}
 use Rattle.answers.proofs.Guards.{not-refused, not-passed-on, done-changes}
 use Rattle.answers.specs.Answers.{done, passOn, guard}
 use Rattle.layout.specs.Layout.{short}
@@ -49,6 +49,7 @@ reading-shuts s Seats e = absurd (false≢true e)
 reading-shuts s Turn e = absurd (false≢true e)
 reading-shuts s Grain e = absurd (false≢true e)
 reading-shuts s Ink e = absurd (false≢true e)
+reading-shuts s Board e = absurd (false≢true (sym (never-at-station s) ∙ e))
 
 -- one test of such a number was passed
 not-shut : (b : Bool) (q : Refusal) (rest : Told) → shutOut (numberOf q) ≡ true → shutOut (guard b q rest .number) ≡ false → (b ≡ false) × (shutOut (rest .number) ≡ false)
@@ -61,7 +62,7 @@ module _ (s : List ℕ) (list : List ℤ) (k t : ℕ) where
       ⊎-elim
       (λ a. (a .0, sym (ap (λ x. shutOut (passOn x rest .number)) (a .1)) ∙ e))
       (λ r. absurd (true≢false (sym (reading-shuts s (r .0) (r .1 .applying)) ∙ sym (ap (λ x. shutOut (passOn x rest .number)) (r .1 .answer)) ∙ e)))
-      (read-or-refused s)
+      (read-or-refused mostPoints s)
 
   -- a round that is not shut out, and one that is not refused
   pub looked-at : (rest : Told) → shutOut (admitted s list k t rest .number) ≡ false → Admitted s list k t

@@ -16,12 +16,12 @@ use Rattle.sheet.specs.declared.Refusal.the-variants.{Shelf, Adrift, Landed, Be
 use Rattle.answers.proofs.Guards.{not-refused, not-passed-on, done-changes}
 use Rattle.layout.specs.Layout.{short}
 use Rattle.runner.specs.Ticks.{isOpen, ticksFlown}
-use Rattle.runner.specs.Steps.{adrift, landed, moved, stepped, onward, repeated}
+use Rattle.runner.specs.Steps.{adrift, landed, moved, onward, repeated, onwardBy, steppedBy}
 use Rattle.runner.specs.Theorems.{Stands}
 use Rattle.runner.specs.declared.Runner.{Runner}
 use Rattle.runner.proofs.Onward.{moved-fits, open-flown, open-steps-stand, closed-steps-on}
 use Rattle.runner.proofs.Standing.{standing, offset-below, leg-below, tick-before, has-tick}
-use Rattle.place.specs.Places.{bendOutside, placed, placeOfRunner}
+use Rattle.place.specs.Places.{bendOutside, placed, placeOfRunner, placeOfRunnerBy}
 use Rattle.station.specs.Claim.{Own, Answered}
 use Rattle.station.proofs.Claim.{claim}
 use Rattle.seat.specs.Serving.{seatsOutside, flown, served, seatAfter}
@@ -70,7 +70,7 @@ module _ (s : List ℕ) (list : List ℤ) (fleet : List Runner) (t : ℕ) (z : r
   seat-moved = own-seat s list fleet t (turn-below s list (length fleet) t (through .0)) ∙ done-changes (roundAnswer s list fleet t) (moved s r) r z
 
   pub seat-onward : seatOf (fleetAfter s list fleet t) t ≡ onward s r
-  unfolding onward stepped
+  unfolding onwardBy steppedBy
   seat-onward = seat-moved ∙ simp (accepted-read s (through .0 .accepted), in-flight .fits, in-flight .flies)
 
 -- ---- Q6
@@ -134,7 +134,7 @@ served-near s list own fleet t z =
 
 -- with own bend numbers neither 9 nor 12 applies, or a runner would not be placed
 own-placed : (s : List ℕ) → Accepted s → (list : List ℤ) → Own s list → (x : Runner) → adrift s x ≡ false → (short s (length list) ≡ false) × (bendOutside s list (x .leg) ≡ false)
-unfolding placeOfRunner
+unfolding placeOfRunnerBy
 own-placed s a list own x fits =
     let z : placeOfRunner s list x .number ≡ 0 = ap (λ (u : Told). u .number) (claim s a .by-runner list own x fits .place) in
     let b = not-refused (short s (length list)) Shelf _ (not-passed-on s _ z .1) in

@@ -7,7 +7,7 @@ use lib.IntN.{ℤ}
 use lib.ListN.{length, drop}
 use Rattle.sheet.specs.Answers.{Told}
 use Rattle.sheet.specs.Fields.{points}
-use Rattle.sheet.specs.Reading.{readSheet}
+use Rattle.sheet.specs.Reading.{mostPoints, readBy}
 use Rattle.sheet.specs.declared.Refusal.the-variants.{Shelf}
 use Rattle.answers.specs.Answers.{done, passOn, guard}
 use Rattle.spline.specs.Spline.{bends}
@@ -21,10 +21,17 @@ allBends s = bends (course s 0) ++ bends (course s 1) ++ bends (course s 2)
 abbrev pub short : List ℕ → ℕ → Bool
 short s room = ltb room (3 * points s)
 
--- A3: the answer
-unfoldable pub layOut : List ℕ → ℕ → Told
-layOut s room = passOn (readSheet s) (guard (short s room) Shelf done)
+-- A3: the answer, of a reader with a limit
+unfoldable pub layOutBy : ℕ → List ℕ → ℕ → Told
+layOutBy limit s room = passOn (readBy limit s) (guard (short s room) Shelf done)
 
 -- L5, A9: the list afterwards; a refused call leaves it whole
-unfoldable pub laidOut : List ℕ → List ℤ → List ℤ
-laidOut s list = cond (eqb (layOut s (length list) .number) 0) (allBends s ++ drop (3 * points s) list) list
+unfoldable pub laidOutBy : ℕ → List ℕ → List ℤ → List ℤ
+laidOutBy limit s list = cond (eqb (layOutBy limit s (length list) .number) 0) (allBends s ++ drop (3 * points s) list) list
+
+-- the station's
+abbrev pub layOut : List ℕ → ℕ → Told
+layOut = layOutBy mostPoints
+
+abbrev pub laidOut : List ℕ → List ℤ → List ℤ
+laidOut = laidOutBy mostPoints

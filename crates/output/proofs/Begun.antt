@@ -58,7 +58,7 @@ module _ (input : List ℕ) (list : List ℤ) (buffer : List ℕ) (bytes : ℕ) 
   pub header-begun : (k : EndKind) (n p : ℕ) {end : ℕ} → length input ≤ longestSheet → readSheet input ≡ Course k n p → list ≡ laidOut input lentList
       → bytes ≤ length buffer → take bytes buffer ≡ header → end ≡ suc p → Begun input list buffer bytes 0 end
   header-begun k n p {end} short read laid room text all =
-      let a = read-accepted input k n p read in let count : end - 0 ≡ suc p = omega arith in (
+      let a = read-accepted _ input k n p read in let count : end - 0 ≡ suc p = omega arith in (
         record {
           room = room;
           in-order = omega arith;

@@ -43,7 +43,7 @@ module _ (s : List ℕ) (list : List ℤ) where
 
 short-by : (s : List ℕ) (r : Reading) → readSheet s ≡ r → length (outputBy r s) ≤ most
 short-by s (Course k n p) e =
-    let a = read-accepted s k n p e in
+    let a = read-accepted _ s k n p e in
     omega (
       arith,
       length-append header (linesFrom s (laidOut s lentList) 0 (suc p)),

@@ -16,7 +16,7 @@ use Rattle.ends.specs.declared.EndKind.{EndKind}
 use Rattle.ends.specs.declared.EndKind.the-variants.{Free, Held, Closed}
 use Rattle.sheet.specs.Bytes.{sumBelow}
 use Rattle.sheet.specs.Fields.{kind, points, legs, leg, ticks}
-use Rattle.sheet.specs.Reading.{Accepted}
+use Rattle.sheet.specs.Reading.{Accepted, mostPoints}
 use Rattle.sheet.proofs.Laws.{read-or-refused, accepted-read, accepted-bounds}
 use Rattle.spline.specs.Spline.{next}
 use Rattle.layout.specs.Course.{course}
@@ -25,7 +25,7 @@ use Rattle.runner.specs.Ticks.{runner, atLap, isOpen, reduced, spotAt, tickOf}
 use Rattle.runner.specs.Steps.{adrift}
 use Rattle.runner.specs.declared.Runner.{Runner}
 use Rattle.runner.proofs.Standing.{Standing, on-leg, at-end, standing, not-adrift, leg-below, tick-at-end, has-tick, spot-of-tick, has-legs, tick-stands}
-use Rattle.place.specs.Places.{endOf, bendOutside, placeOn, placed, placeAtTick, placeOfRunner}
+use Rattle.place.specs.Places.{endOf, bendOutside, placeOn, placed, placeAtTick, placeOfRunner, placeAtTickBy, placeOfRunnerBy}
 use Rattle.place.specs.Theorems.{LegEndsMet, met, tickOfWaypoint, WaypointMetAtTick, WaypointMetByRunner, TickIsRunner}
 use Rattle.place.proofs.Ends.{start-met, end-met}
 
@@ -54,15 +54,15 @@ last-end s a o =
 
 -- ---- the place by tick is the place by the tick's runner: that runner is not adrift
 pub tick-is-runner : TickIsRunner
-unfolding placeAtTick placeOfRunner
+unfolding placeAtTickBy placeOfRunnerBy
 tick-is-runner s list t h =
-    ⊎-elim (λ w. simp (w .1, h, tick-stands s (w .0) t h .fits)) (λ w. let e = w .1 .answer in simp e) (read-or-refused s)
+    ⊎-elim (λ w. simp (w .1, h, tick-stands s (w .0) t h .fits)) (λ w. let e = w .1 .answer in simp e) (read-or-refused mostPoints s)
 
 -- ---- an accepted sheet whose list is long enough
 module _ (s : List ℕ) (a : Accepted s) (list : List ℤ) (room : short s (length list) ≡ false) where
   -- a runner to which neither 11 nor 12 applies gets its place
   answered : (r : Runner) → adrift s r ≡ false → bendOutside s list (r .leg) ≡ false → placeOfRunner s list r ≡ placed s list r
-  unfolding placeOfRunner
+  unfolding placeOfRunnerBy
   answered r fits bends = simp (accepted-read s a, room, fits, bends)
 
   -- every leg's start, and the end of an open course; places know no laps

@@ -8,7 +8,7 @@ use lib.ListN.{length}
 use Rattle.sheet.specs.Answers.{Told, refused}
 use Rattle.sheet.specs.Bytes.{anyBelow}
 use Rattle.sheet.specs.Fields.{points, leg, waypoint}
-use Rattle.sheet.specs.Reading.{outside, readSheet}
+use Rattle.sheet.specs.Reading.{outside, mostPoints, readBy}
 use Rattle.sheet.specs.declared.Refusal.the-variants.{Shelf, Past, Adrift, Bend}
 use Rattle.answers.specs.Answers.{passOn, guard}
 use Rattle.answers.specs.declared.Outcome.the-variants.{Done, Refused}
@@ -66,10 +66,17 @@ placed s list r = record { number = 0; values = placeOn s list r 0 ∷ placeOn s
 abbrev pub bendOrPlace : List ℕ → List ℤ → Runner → Told
 bendOrPlace s list r = guard (bendOutside s list (r .leg)) Bend (placed s list r)
 
--- A4: at the tick's leg and offset (P3)
-unfoldable pub placeAtTick : List ℕ → List ℤ → ℕ → Told
-placeAtTick s list t = passOn (readSheet s) (guard (short s (length list)) Shelf (guard (past s t) Past (bendOrPlace s list (spotAt s t))))
+-- A4: at the tick's leg and offset (P3), of a reader with a limit
+unfoldable pub placeAtTickBy : ℕ → List ℕ → List ℤ → ℕ → Told
+placeAtTickBy limit s list t = passOn (readBy limit s) (guard (short s (length list)) Shelf (guard (past s t) Past (bendOrPlace s list (spotAt s t))))
 
 -- A5: at the runner's own leg and offset
-unfoldable pub placeOfRunner : List ℕ → List ℤ → Runner → Told
-placeOfRunner s list r = passOn (readSheet s) (guard (short s (length list)) Shelf (guard (adrift s r) Adrift (bendOrPlace s list r)))
+unfoldable pub placeOfRunnerBy : ℕ → List ℕ → List ℤ → Runner → Told
+placeOfRunnerBy limit s list r = passOn (readBy limit s) (guard (short s (length list)) Shelf (guard (adrift s r) Adrift (bendOrPlace s list r)))
+
+-- the station's
+abbrev pub placeAtTick : List ℕ → List ℤ → ℕ → Told
+placeAtTick = placeAtTickBy mostPoints
+
+abbrev pub placeOfRunner : List ℕ → List ℤ → Runner → Told
+placeOfRunner = placeOfRunnerBy mostPoints

@@ -6,7 +6,7 @@ pub mod position;
 ghost use mathlib.Core.Path.{_≡_};
 ghost use Rattle.sheet.specs.Answers.{refused};
 ghost use Rattle.place.specs.Asked.{Fitting};
-ghost use Rattle.place.specs.Places.{toldPlaced, placeHeld, bendOrPlace, placeAtTick, placeOfRunner};
+ghost use Rattle.place.specs.Places.{toldPlaced, placeHeld, bendOrPlace, placeAtTick, placeAtTickBy, placeOfRunner, placeOfRunnerBy};
 use answers::Outcome;
 pub use axis::LegNumbers;
 pub use axis::numbers_on;
@@ -14,6 +14,7 @@ use axis::place_on;
 pub use bends::bend_outside;
 pub use bends::is_short;
 use runner::Runner;
+use sheet::MOST_POINTS;
 use sheet::Reading;
 use sheet::Refusal;
 use sheet::SUMS;
@@ -65,13 +66,13 @@ pub fn place_at(s: &[u8], list: &[i64], points: usize, legs: usize, at: Runner) 
     }
 }
 
-// A4: tests 1 to 10 and 12.
-pub fn place_at_tick(s: &[u8], list: &[i64], tick: u64) -> Placed
-    ensures told { λ r. ⌜ toldPlaced r ≡ placeAtTick (now (s .entry)) (now (list .entry)) tick ⌝ }
-    ensures place { λ r. ⌜ r .place .at ≡ placeHeld (placeAtTick (now (s .entry)) (now (list .entry)) tick) ⌝ }
+// A4, on sheets with up to `limit` waypoints: tests 1 to 10 and 12.
+pub fn place_at_tick_by(limit: usize, s: &[u8], list: &[i64], tick: u64) -> Placed
+    ensures told { λ r. ⌜ toldPlaced r ≡ placeAtTickBy limit (now (s .entry)) (now (list .entry)) tick ⌝ }
+    ensures place { λ r. ⌜ r .place .at ≡ placeHeld (placeAtTickBy limit (now (s .entry)) (now (list .entry)) tick) ⌝ }
 {
     let mut sums = [0u32; SUMS];
-    let reading = sheet::read_with_sums(s, &mut sums);
+    let reading = sheet::read_with_sums(limit, s, &mut sums);
     let Reading::Course {
         kind,
         points,
@@ -91,12 +92,12 @@ pub fn place_at_tick(s: &[u8], list: &[i64], tick: u64) -> Placed
     place_at(s, list, points, legs, at)
 }
 
-// A5: tests 1 to 9, 11 and 12.
-pub fn place_of_runner(s: &[u8], list: &[i64], at: Runner) -> Placed
-    ensures told { λ r. ⌜ toldPlaced r ≡ placeOfRunner (now (s .entry)) (now (list .entry)) at ⌝ }
-    ensures place { λ r. ⌜ r .place .at ≡ placeHeld (placeOfRunner (now (s .entry)) (now (list .entry)) at) ⌝ }
+// A5, on sheets with up to `limit` waypoints: tests 1 to 9, 11 and 12.
+pub fn place_of_runner_by(limit: usize, s: &[u8], list: &[i64], at: Runner) -> Placed
+    ensures told { λ r. ⌜ toldPlaced r ≡ placeOfRunnerBy limit (now (s .entry)) (now (list .entry)) at ⌝ }
+    ensures place { λ r. ⌜ r .place .at ≡ placeHeld (placeOfRunnerBy limit (now (s .entry)) (now (list .entry)) at) ⌝ }
 {
-    let reading = sheet::read(s);
+    let reading = sheet::read_by(limit, s);
     let Reading::Course {
         kind,
         points,
@@ -113,4 +114,19 @@ pub fn place_of_runner(s: &[u8], list: &[i64], at: Runner) -> Placed
         return refused(Refusal::Adrift);
     }
     place_at(s, list, points, legs, at)
+}
+
+// The station's.
+pub fn place_at_tick(s: &[u8], list: &[i64], tick: u64) -> Placed
+    ensures told { λ r. ⌜ toldPlaced r ≡ placeAtTick (now (s .entry)) (now (list .entry)) tick ⌝ }
+    ensures place { λ r. ⌜ r .place .at ≡ placeHeld (placeAtTick (now (s .entry)) (now (list .entry)) tick) ⌝ }
+{
+    place_at_tick_by(MOST_POINTS, s, list, tick)
+}
+
+pub fn place_of_runner(s: &[u8], list: &[i64], at: Runner) -> Placed
+    ensures told { λ r. ⌜ toldPlaced r ≡ placeOfRunner (now (s .entry)) (now (list .entry)) at ⌝ }
+    ensures place { λ r. ⌜ r .place .at ≡ placeHeld (placeOfRunner (now (s .entry)) (now (list .entry)) at) ⌝ }
+{
+    place_of_runner_by(MOST_POINTS, s, list, at)
 }

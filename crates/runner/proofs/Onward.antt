@@ -18,7 +18,7 @@ use Rattle.sheet.specs.Fields.{kind, legs, leg, ticks}
 use Rattle.sheet.specs.Reading.{Accepted}
 use Rattle.sheet.specs.declared.Refusal.the-variants.{Landed}
 use Rattle.runner.specs.Ticks.{runner, atLap, found, isOpen, reduced, lapsIn, spotAt, tickOf, ticksFlown}
-use Rattle.runner.specs.Steps.{adrift, mostLaps, nextLap, landed, lastStep, moved, stepped, onward, repeated, after, flownTo}
+use Rattle.runner.specs.Steps.{adrift, mostLaps, nextLap, landed, lastStep, moved, stepped, onward, repeated, after, flownTo, steppedBy, onwardBy}
 use Rattle.runner.specs.Theorems.{Stands, ClosedSteps, ClosedStepsOn, OpenSteps, StepBefore}
 use Rattle.runner.specs.Restored.{KeepsLap}
 use Rattle.runner.specs.declared.Runner.{Runner}
@@ -97,11 +97,11 @@ module _ (s : List ℕ) (a : Accepted s) where
 
   -- before the end a step answers where the runner has moved on to ..
   pub step-done : (r : Runner) → Standing s r → r .offset < leg s (r .leg) → stepped s r ≡ found (moved s r)
-  unfolding stepped
+  unfolding steppedBy
   step-done r st q = simp (accepted-read s a, not-adrift s r st, not-landed s r q)
 
   pub onward-done : (r : Runner) → Standing s r → r .offset < leg s (r .leg) → onward s r ≡ moved s r
-  unfolding onward
+  unfolding onwardBy
   onward-done r st q = rw (step-done r st q)
 
   pub onward-onto : (r : Runner) → Standing s r → r .offset < leg s (r .leg) → Onto s r (onward s r)
@@ -109,11 +109,11 @@ module _ (s : List ℕ) (a : Accepted s) where
 
   -- .. and at the end landed
   step-landed : (r : Runner) → Standing s r → isOpen (kind s) ≡ true → suc (r .leg) ≡ legs s → r .offset ≡ leg s (r .leg) → stepped s r ≡ refused Landed
-  unfolding stepped
+  unfolding steppedBy
   step-landed r st o p q = simp (accepted-read s a, not-adrift s r st, landed-at-end s r o p q)
 
   onward-landed : (r : Runner) → Standing s r → isOpen (kind s) ≡ true → suc (r .leg) ≡ legs s → r .offset ≡ leg s (r .leg) → onward s r ≡ r
-  unfolding onward
+  unfolding onwardBy
   onward-landed r st o p q = rw (step-landed r st o p q)
 
   -- a runner that is moved on still fits the sheet

@@ -10,10 +10,10 @@ use native.Mathlib.Omega.{arith}
 use Rattle.ends.specs.declared.EndKind.the-variants.{Closed}
 use Rattle.sheet.proofs.Laws.{accepted-bounds}
 use Rattle.sheet.specs.Fields.{kind, leg, ticks}
-use Rattle.sheet.specs.Reading.{Accepted}
+use Rattle.sheet.specs.Reading.{Accepted, mostPoints}
 use Rattle.sheet.specs.declared.Refusal.the-variants.{Landed, Start}
 use Rattle.runner.specs.Ticks.{runner, atLap, found, isOpen, reduced, lapsIn, tickOf, ticksFlown}
-use Rattle.runner.specs.Steps.{adrift, mostLaps, landed, moved, stepped, onward, repeated}
+use Rattle.runner.specs.Steps.{adrift, mostLaps, landed, moved, stepped, onward, repeated, steppedBy}
 use Rattle.runner.specs.Backs.{atStart, movedBack, backed, backward}
 use Rattle.runner.specs.Theorems.{Stands}
 use Rattle.runner.specs.Restored.{KeepsLap, RoomFor, BackAfterStep, BackAfterKept, StepAfterBack, BacksAfterSteps, StepsAfterBacks}
@@ -108,16 +108,16 @@ module _ (s : List ℕ) (a : Accepted s) where
           (step-done s a m moved-off low ∙ ap found (sym (onward-done s a m moved-off low) ∙ home), home)
 
 pub back-after-step : BackAfterStep
-unfolding stepped
+unfolding steppedBy
 back-after-step s r e counted =
-    let p = has-passed s r (landed s r) Landed (moved s r) e in
+    let p = has-passed mostPoints s r (landed s r) Landed (moved s r) e in
     let st = standing s r (p .fits) in
     back-home s (p .accepted) r st (offset-below s r st (p .free)) counted
 
 pub step-after-back : StepAfterBack
 unfolding backed
 step-after-back s r few e =
-    let p = has-passed s r (atStart r) Start (movedBack s r) e in
+    let p = has-passed mostPoints s r (atStart r) Start (movedBack s r) e in
     step-home s (p .accepted) r (standing s r (p .fits)) (p .free) few
 
 -- the step that keeps its lap leads to the largest count at the first waypoint, and one tick before that is a lap short

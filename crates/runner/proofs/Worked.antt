@@ -6,14 +6,14 @@ use native.Mathlib.Omega.{arith}
 use lib.Dec.{lit<, lit≤}
 use Rattle.sheet.specs.Bytes.{be16, be32, signed32, anyBelow, sumBelow}
 use Rattle.sheet.specs.Reading.{readBy}
-use Rattle.runner.specs.Ticks.{walk, spotAt, tickOf, runnerAtTick}
-use Rattle.runner.specs.Steps.{offLegs, adrift, moved, stepped, onward}
+use Rattle.runner.specs.Ticks.{walk, spotAt, tickOf, runnerAtTickBy}
+use Rattle.runner.specs.Steps.{offLegs, adrift, moved, steppedBy, onwardBy}
 use Rattle.runner.specs.Backs.{movedBack, backed, backward}
 use Rattle.runner.specs.Worked.{MovesTried, LapsTried, SearchTried}
 use Rattle.runner.specs.declared.Runner.{Runner}
 
 pub moves-tried : MovesTried
-unfolding be16 be32 signed32 anyBelow sumBelow readBy offLegs adrift moved stepped onward movedBack backed backward
+unfolding be16 be32 signed32 anyBelow sumBelow readBy offLegs adrift moved steppedBy onwardBy movedBack backed backward
 moves-tried = record {
   on-leg = refl;
   from-end = refl;
@@ -31,7 +31,7 @@ moves-tried = record {
 }
 
 pub laps-tried : LapsTried
-unfolding be16 be32 signed32 anyBelow sumBelow readBy walk spotAt tickOf runnerAtTick offLegs adrift moved stepped onward movedBack backed backward
+unfolding be16 be32 signed32 anyBelow sumBelow readBy walk spotAt tickOf runnerAtTickBy offLegs adrift moved steppedBy onwardBy movedBack backed backward
 laps-tried = record {
   first-lap = refl;
   one-lap = refl;
@@ -49,7 +49,7 @@ laps-tried = record {
 }
 
 pub search-tried : SearchTried
-unfolding be16 be32 signed32 anyBelow sumBelow readBy walk spotAt runnerAtTick
+unfolding be16 be32 signed32 anyBelow sumBelow readBy walk spotAt runnerAtTickBy
 search-tried = record {
   kept = refl;
   before-it = refl;

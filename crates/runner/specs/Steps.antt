@@ -7,7 +7,7 @@ use Rattle.ends.specs.declared.EndKind.{EndKind}
 use Rattle.ends.specs.declared.EndKind.the-variants.{Free, Held, Closed}
 use Rattle.sheet.specs.Answers.{Told}
 use Rattle.sheet.specs.Fields.{kind, legs, leg, ticks}
-use Rattle.sheet.specs.Reading.{readSheet}
+use Rattle.sheet.specs.Reading.{mostPoints, readBy}
 use Rattle.sheet.specs.declared.Refusal.the-variants.{Adrift, Landed}
 use Rattle.answers.specs.Answers.{passOn, guard}
 use Rattle.runner.specs.Ticks.{runner, atLap, found, isOpen, spotAt}
@@ -44,13 +44,20 @@ moved s r =
     cond (ltb (suc (r .offset)) (leg s (r .leg))) (atLap (r .laps) (runner (r .leg) (suc (r .offset))))
     (cond (ltb (suc (r .leg)) (legs s)) (atLap (r .laps) (runner (suc (r .leg)) 0)) (lastStep (kind s) r))
 
--- A7: by value the step answers the runner moved on, over a lent record its number alone (`bare`)
-unfoldable pub stepped : List ℕ → Runner → Told
-stepped s r = passOn (readSheet s) (guard (adrift s r) Adrift (guard (landed s r) Landed (found (moved s r))))
+-- A7: by value the step answers the runner moved on, over a lent record its number alone (`bare`); of a reader with a limit
+unfoldable pub steppedBy : ℕ → List ℕ → Runner → Told
+steppedBy limit s r = passOn (readBy limit s) (guard (adrift s r) Adrift (guard (landed s r) Landed (found (moved s r))))
 
 -- M2, A9: the record that a step leaves, moved on or, where the step is refused, as it was
-unfoldable pub onward : List ℕ → Runner → Runner
-onward s r = cond (eqb (stepped s r .number) 0) (moved s r) r
+unfoldable pub onwardBy : ℕ → List ℕ → Runner → Runner
+onwardBy limit s r = cond (eqb (steppedBy limit s r .number) 0) (moved s r) r
+
+-- the station's
+abbrev pub stepped : List ℕ → Runner → Told
+stepped = steppedBy mostPoints
+
+abbrev pub onward : List ℕ → Runner → Runner
+onward = onwardBy mostPoints
 
 -- M4, M5, M9: a runner after n moves of one sort, each by its own definition; and the record after n steps from the first waypoint, no lap flown
 unfoldable pub repeated : (Runner → Runner) → ℕ → Runner → Runner

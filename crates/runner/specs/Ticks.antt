@@ -10,7 +10,7 @@ use Rattle.ends.specs.declared.EndKind.the-variants.{Free, Held, Closed}
 use Rattle.sheet.specs.Answers.{Told, refused}
 use Rattle.sheet.specs.Bytes.{sumBelow}
 use Rattle.sheet.specs.Fields.{kind, legs, leg, ticks}
-use Rattle.sheet.specs.Reading.{readSheet, Accepted}
+use Rattle.sheet.specs.Reading.{mostPoints, readBy, Accepted}
 use Rattle.sheet.specs.declared.Refusal.the-variants.{Past}
 use Rattle.answers.specs.Answers.{passOn, guard}
 use Rattle.runner.specs.declared.Runner.{Runner}
@@ -82,6 +82,9 @@ ticksFlown s r = r .laps * ticks s + tickOf s r
 abbrev pub past : List ℕ → ℕ → Bool
 past s t = isOpen (kind s) && ltb (ticks s) t
 
--- A6: the runner from a tick
-unfoldable pub runnerAtTick : List ℕ → ℕ → Told
-runnerAtTick s t = passOn (readSheet s) (guard (past s t) Past (found (spotAt s t)))
+-- A6: the runner from a tick, of a reader with a limit; and the station's
+unfoldable pub runnerAtTickBy : ℕ → List ℕ → ℕ → Told
+runnerAtTickBy limit s t = passOn (readBy limit s) (guard (past s t) Past (found (spotAt s t)))
+
+abbrev pub runnerAtTick : List ℕ → ℕ → Told
+runnerAtTick = runnerAtTickBy mostPoints

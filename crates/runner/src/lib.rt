@@ -12,11 +12,14 @@ use sheet::Refusal;
 pub use steps::is_adrift;
 pub use steps::is_landed;
 pub use steps::moved;
+pub use steps::onward_by;
 pub use steps::step;
 pub use steps::step_record;
 pub use steps::stepped;
+pub use steps::stepped_by;
 pub use ticks::is_past;
 pub use ticks::runner_at_tick;
+pub use ticks::runner_at_tick_by;
 pub use ticks::spot_at;
 
 // M1: which leg, the first being 0, how many ticks along it, and the laps flown.

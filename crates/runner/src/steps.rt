@@ -4,7 +4,7 @@ ghost use mathlib.Core.Bool.{false};
 ghost use Prim.Native.Nat.{_<_};
 ghost use Rattle.runner.specs.Ticks.{IsRead, toldRunner};
 ghost use Rattle.answers.specs.Answers.{toldOutcome, bare};
-ghost use Rattle.runner.specs.Steps.{offLegs, adrift, nextLap, landed, moved, stepped, onward};
+ghost use Rattle.runner.specs.Steps.{offLegs, adrift, nextLap, landed, moved, stepped, steppedBy, onward, onwardBy};
 use crate::Runner;
 use crate::RunnerAnswer;
 use crate::records::RunnerOutcome;
@@ -12,6 +12,7 @@ use crate::records::kept;
 use crate::ticks::is_open;
 use answers::Outcome;
 use ends::EndKind;
+use sheet::MOST_POINTS;
 use sheet::Reading;
 use sheet::Refusal;
 use sheet::leg_length;
@@ -103,11 +104,11 @@ pub fn moved(s: &[u8], kind: EndKind, legs: usize, at: Runner) -> Runner
     }
 }
 
-// The step by value (A7). Tests 1 to 8, 11 and 13.
-pub fn stepped(s: &[u8], at: Runner) -> RunnerAnswer
-    ensures { λ r. ⌜ toldRunner r ≡ stepped (now (s .entry)) at ⌝ }
+// The step by value (A7), on sheets with up to `limit` waypoints. Tests 1 to 8, 11 and 13.
+pub fn stepped_by(limit: usize, s: &[u8], at: Runner) -> RunnerAnswer
+    ensures { λ r. ⌜ toldRunner r ≡ steppedBy limit (now (s .entry)) at ⌝ }
 {
-    let reading = sheet::read(s);
+    let reading = sheet::read_by(limit, s);
     let Reading::Course {
         kind,
         points,
@@ -126,11 +127,24 @@ pub fn stepped(s: &[u8], at: Runner) -> RunnerAnswer
     RunnerAnswer::At(moved(s, kind, legs, at))
 }
 
-// The covered step under the lent one (F7): a refused one gives the runner back as it came (A9).
+// The covered step under the lent ones (F7): a refused one gives the runner back as it came (A9).
+pub fn onward_by(limit: usize, s: &[u8], at: Runner) -> RunnerOutcome
+    ensures { λ r. ⌜ (toldOutcome (r .outcome) ≡ bare (steppedBy limit (now (s .entry)) at)) × (r .at ≡ onwardBy limit (now (s .entry)) at) ⌝ }
+{
+    kept(stepped_by(limit, s, at), at)
+}
+
+// The station's step by value, and the one under its lent step.
+pub fn stepped(s: &[u8], at: Runner) -> RunnerAnswer
+    ensures { λ r. ⌜ toldRunner r ≡ stepped (now (s .entry)) at ⌝ }
+{
+    stepped_by(MOST_POINTS, s, at)
+}
+
 fn onward(s: &[u8], at: Runner) -> RunnerOutcome
     ensures { λ r. ⌜ (toldOutcome (r .outcome) ≡ bare (stepped (now (s .entry)) at)) × (r .at ≡ onward (now (s .entry)) at) ⌝ }
 {
-    kept(stepped(s, at), at)
+    onward_by(MOST_POINTS, s, at)
 }
 
 // M2: the step over a lent record. Tests 1 to 8, 11 and 13; a refused one leaves the record alone (A9).

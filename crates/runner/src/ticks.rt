@@ -8,10 +8,11 @@ ghost use Rattle.sheet.specs.Bytes.{sumBelow};
 ghost use Rattle.sheet.specs.Carried.{stride, Carried};
 ghost use Rattle.sheet.specs.Fields.{leg, ticks as sumOfLegs};
 ghost use Rattle.sheet.specs.Reading.{mostPoints};
-ghost use Rattle.runner.specs.Ticks.{IsRead, isOpen, reduced, lapsIn, atLap, walk, spotAt, runnerAtTick, toldRunner};
+ghost use Rattle.runner.specs.Ticks.{IsRead, isOpen, reduced, lapsIn, atLap, walk, spotAt, runnerAtTick, runnerAtTickBy, toldRunner};
 use crate::Runner;
 use crate::RunnerAnswer;
 use ends::EndKind;
+use sheet::MOST_POINTS;
 use sheet::Reading;
 use sheet::Refusal;
 use sheet::STRIDE;
@@ -122,12 +123,12 @@ pub fn spot_at(
     leg_from(s, legs, STRIDE * b, sums[b] as u64, here, laps)
 }
 
-// The runner from a tick (A6). Tests 1 to 8 and 10.
-pub fn runner_at_tick(s: &[u8], tick: u64) -> RunnerAnswer
-    ensures { λ r. ⌜ toldRunner r ≡ runnerAtTick (now (s .entry)) tick ⌝ }
+// The runner from a tick (A6), on sheets with up to `limit` waypoints. Tests 1 to 8 and 10.
+pub fn runner_at_tick_by(limit: usize, s: &[u8], tick: u64) -> RunnerAnswer
+    ensures { λ r. ⌜ toldRunner r ≡ runnerAtTickBy limit (now (s .entry)) tick ⌝ }
 {
     let mut sums = [0u32; SUMS];
-    let reading = sheet::read_with_sums(s, &mut sums);
+    let reading = sheet::read_with_sums(limit, s, &mut sums);
     let Reading::Course {
         kind,
         points,
@@ -140,4 +141,11 @@ pub fn runner_at_tick(s: &[u8], tick: u64) -> RunnerAnswer
         return RunnerAnswer::Refused(Refusal::Past);
     }
     RunnerAnswer::At(spot_at(s, kind, ends::leg_count(kind, points), ticks, &sums, tick))
+}
+
+// The station's.
+pub fn runner_at_tick(s: &[u8], tick: u64) -> RunnerAnswer
+    ensures { λ r. ⌜ toldRunner r ≡ runnerAtTick (now (s .entry)) tick ⌝ }
+{
+    runner_at_tick_by(MOST_POINTS, s, tick)
 }

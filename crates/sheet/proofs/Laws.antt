@@ -1,11 +1,11 @@
 -- The theorems of specs/Theorems: a sheet is read or has exactly one refusal, and an accepted sheet has the bounds that all later arithmetic rests on.
 use mathlib.Core.Path.{_≡_, refl, sym, ap, _∙_, subst}
-use mathlib.Core.Bool.{Bool, true, false}
-use mathlib.Core.List.{List, _∷_}
+use mathlib.Core.Bool.{Bool, true, false, not, _&&_}
+use mathlib.Core.List.{List, [], _∷_}
 use mathlib.Core.Logic.{_⊎_, inl, inr, ⊎-elim}
 use Prim.Native.Nat.{ℕ, suc, _≤_, _<_}
 use native.Mathlib.Omega.{arith}
-use borrow.Author.Tests.{ltb-false, eqb-true, not-false}
+use borrow.Author.Tests.{le-ltb, ltb-false, eqb-true, not-false}
 use lib.Dec.{ltb, eqb}
 use lib.IntN.{natAbs}
 use lib.ListN.{length}
@@ -16,88 +16,145 @@ use Rattle.integers.proofs.Order.{le-or-lt}
 use Rattle.sheet.specs.Answers.{numberOf, told}
 use Rattle.sheet.specs.Bytes.{anyBelow}
 use Rattle.sheet.specs.Fields.{kind, points, legs, leg, ticks, waypoint, slope, sheetLength}
-use Rattle.sheet.specs.Reading.{Accepted, legOutside, reachOutside, slopeOutside, slopesOutside, applies, lowest, mostPoints, longestSheet, readBy, readSheet}
-use Rattle.sheet.specs.Theorems.{ReadOrRefused, ReadAccepted, AcceptedBounds, HeightsKept}
+use Rattle.sheet.specs.Reading.{Accepted, legOutside, reachOutside, slopeOutside, slopesOutside, applies, refuseIf, lowest, tested, order, mostPoints, longestSheet, readBy}
+use Rattle.sheet.specs.Theorems.{ReadOrRefused, ReadAccepted, NeverAtStation, ReadAlike, AcceptedBounds, HeightsKept}
 use Rattle.sheet.specs.declared.Refusal.{Refusal}
-use Rattle.sheet.specs.declared.Refusal.the-variants.{Torn, Edition, Ends, Points, Size, Leg, Reach, Slope, Shelf, Past, Adrift, Bend, Landed, Page, Start, Shut, Apart, Crowded, Seats, Turn, Grain, Ink}
+use Rattle.sheet.specs.declared.Refusal.the-variants.{Torn, Edition, Ends, Points, Size, Leg, Reach, Slope, Shelf, Past, Adrift, Bend, Landed, Page, Start, Shut, Apart, Crowded, Seats, Turn, Grain, Ink, Board}
 use Rattle.sheet.specs.declared.Reading.{Reading}
 use Rattle.sheet.specs.declared.Reading.the-variants.{Course, Refused}
 use Rattle.sheet.proofs.Below.{or-left, or-right, any-none, sum-at-most, sum-at-least}
 use Rattle.sheet.proofs.ByKind.{least-two, legs-at-most, legs-at-least, held-longest}
 use Rattle.sheet.proofs.Lowest.{past, passed, stopped}
 use Rattle.sheet.proofs.Numbers.{within-size, reach-size, within-floor, within-ceiling}
-use Rattle.sheet.proofs.Told.{number-injective, number-positive}
+use Rattle.sheet.proofs.Told.{order-injective, order-positive, order-small}
 pub use Rattle.sheet.proofs.Told.{told-injective}
 
--- ---- read or refused: down the chain, each number in its turn applies or is passed
-module _ (s : List ℕ) where
-  -- no number below k applies
-  abbrev Passed : ℕ → Type 0
-  Passed k = (q : Refusal) → numberOf q < k → applies mostPoints s q ≡ false
+-- ---- the limit, which 23 alone asks for
+never : (b : Bool) → (b && not b) ≡ false
+never true = refl
+never false = refl
 
-  pass : (r : Refusal) → Passed (numberOf r) → applies mostPoints s r ≡ false → Passed (suc (numberOf r))
+pub never-at-station : NeverAtStation
+never-at-station s = never (ltb mostPoints (points s))
+
+module _ (limit : ℕ) (s : List ℕ) where
+  -- where 23 does not apply, every number applies as at the station
+  alike : applies limit s Board ≡ false → (r : Refusal) → applies limit s r ≡ applies mostPoints s r
+  alike e Torn = refl
+  alike e Edition = refl
+  alike e Ends = refl
+  alike e Points = refl
+  alike e Size = refl
+  alike e Leg = refl
+  alike e Reach = refl
+  alike e Slope = refl
+  alike e Shelf = refl
+  alike e Past = refl
+  alike e Adrift = refl
+  alike e Bend = refl
+  alike e Landed = refl
+  alike e Page = refl
+  alike e Start = refl
+  alike e Shut = refl
+  alike e Apart = refl
+  alike e Crowded = refl
+  alike e Seats = refl
+  alike e Turn = refl
+  alike e Grain = refl
+  alike e Ink = refl
+  alike e Board = e ∙ sym (never-at-station s)
+
+  lowest-alike : applies limit s Board ≡ false → (rs : List Refusal) → lowest limit s rs ≡ lowest mostPoints s rs
+  lowest-alike e [] = refl
+  lowest-alike e (r ∷ rs) = λ i. refuseIf (alike e r i) r (lowest-alike e rs i)
+
+pub read-alike : ReadAlike
+unfolding readBy
+read-alike limit s h = lowest-alike limit s (simp (le-ltb limit (points s) h)) tested
+
+-- ---- read or refused: down the chain, each number in its turn applies or is passed
+module _ (limit : ℕ) (s : List ℕ) where
+  -- nothing that stands before k in the order applies
+  abbrev Passed : ℕ → Type 0
+  Passed k = (q : Refusal) → order q < k → applies limit s q ≡ false
+
+  pass : (r : Refusal) → Passed (order r) → applies limit s r ≡ false → Passed (suc (order r))
   pass r p e q h =
-      le-or-lt (numberOf r) (numberOf q) (applies mostPoints s q ≡ false)
-      (λ k. ap (applies mostPoints s) (number-injective q r (omega arith)) ∙ e)
+      le-or-lt (order r) (order q) (applies limit s q ≡ false)
+      (λ k. ap (applies limit s) (order-injective q r (omega arith)) ∙ e)
       (λ k. p q k)
 
-  -- the answer x is that of an accepted sheet, or the lowest number's
+  -- the answer x is that of an accepted sheet, or the first number's
   abbrev Answered : Reading → Type 0
   Answered x =
-      (Passed 9 × (x ≡ Course (kind s) (points s) (ticks s)))
-      ⊎ ((r : Refusal) × (x ≡ Refused r) × (applies mostPoints s r ≡ true) × Passed (numberOf r))
+      (Passed 10 × (x ≡ Course (kind s) (points s) (ticks s)))
+      ⊎ ((r : Refusal) × (x ≡ Refused r) × (applies limit s r ≡ true) × Passed (order r))
 
-  ask : (r : Refusal) (rs : List Refusal) → Passed (numberOf r)
-      → (Passed (suc (numberOf r)) → Answered (lowest mostPoints s rs)) → Answered (lowest mostPoints s (r ∷ rs))
-  ask r rs p f = go (applies mostPoints s r) refl
+  ask : (r : Refusal) (rs : List Refusal) → Passed (order r)
+      → (Passed (suc (order r)) → Answered (lowest limit s rs)) → Answered (lowest limit s (r ∷ rs))
+  ask r rs p f = go (applies limit s r) refl
     where
-      go : (b : Bool) → applies mostPoints s r ≡ b → Answered (lowest mostPoints s (r ∷ rs))
-      go true e = inr (r, sym (stopped s r rs e), e, p)
-      go false e = subst Answered (passed s r rs e) (f (pass r p e))
+      go : (b : Bool) → applies limit s r ≡ b → Answered (lowest limit s (r ∷ rs))
+      go true e = inr (r, sym (stopped limit s r rs e), e, p)
+      go false e = subst Answered (passed limit s r rs e) (f (pass r p e))
 
-  answered : Answered (readSheet s)
+  answered : Answered (readBy limit s)
   unfolding readBy
   answered =
-      ask Torn (past 1) (λ q h. absurd (omega (arith, number-positive q))) (λ a.
+      ask Torn (past 1) (λ q h. absurd (omega (arith, order-positive q))) (λ a.
       ask Edition (past 2) a (λ b.
       ask Ends (past 3) b (λ c.
       ask Points (past 4) c (λ d.
-      ask Size (past 5) d (λ e.
-      ask Leg (past 6) e (λ f.
-      ask Reach (past 7) f (λ g.
-      ask Slope (past 8) g (λ h. inl (h, refl)))))))))
+      ask Board (past 5) d (λ e.
+      ask Size (past 6) e (λ f.
+      ask Leg (past 7) f (λ g.
+      ask Reach (past 8) g (λ h.
+      ask Slope (past 9) h (λ i. inl (i, refl))))))))))
+
+  -- neither 23 nor 4 applies: N is within the limit
+  kept : applies limit s Board ≡ false → applies limit s Points ≡ false → points s ≤ limit
+  kept e f =
+      ltb-false limit (points s)
+      (by (ltb limit (points s)) (ltb mostPoints (points s)) e (or-right (ltb (points s) (leastPoints (kind s))) (ltb mostPoints (points s)) f))
+    where
+      by : (a b : Bool) → (a && not b) ≡ false → b ≡ false → a ≡ false
+      by true true e f = f
+      by true false e f = e
+      by false b e f = refl
 
 pub read-or-refused : ReadOrRefused
-read-or-refused s =
+read-or-refused limit s =
     ⊎-elim
-    (λ a. inl ((λ r h. a .0 r (omega arith)), a .1))
+    (λ a. let within = a .0 Board (omega arith) in
+    inl ((λ r h. sym (alike limit s within r) ∙ a .0 r (omega (arith, order-small (numberOf r) h))), a .1, kept limit s within (a .0 Points (omega arith))))
     (λ a. inr (a .0, record { answer = a .1; applying = a .2; lower = a .3 }))
-    (answered s)
+    (answered limit s)
 
 pub read-accepted : ReadAccepted
-read-accepted s k n p e =
+read-accepted limit s k n p e =
     ⊎-elim
-    (λ a. let f = a .1 in (a .0, (cc), (cc), (cc)))
+    (λ a. let f = a .1 in (a .0, (cc), (cc), (cc), a .2))
     (λ a. let f = a .1 .answer in (absurd (let z : _≡_ {A = ℕ} 0 1 = cc in omega arith)))
-    (read-or-refused s)
+    (read-or-refused limit s)
 
 -- what a caller of the reader learns where it got a course
-pub course-read : (s : List ℕ) (r : Reading) (k : EndKind) (n p : ℕ) → told r ≡ told (readSheet s) → r ≡ Course k n p
-    → Accepted s × (k ≡ kind s) × (n ≡ points s) × (p ≡ ticks s)
-course-read s r k n p e f = read-accepted s k n p (sym (told-injective r (readSheet s) e) ∙ f)
+pub course-read : (limit : ℕ) (s : List ℕ) (r : Reading) (k : EndKind) (n p : ℕ) → told r ≡ told (readBy limit s) → r ≡ Course k n p
+    → Accepted s × (k ≡ kind s) × (n ≡ points s) × (p ≡ ticks s) × (points s ≤ limit)
+course-read limit s r k n p e f = read-accepted limit s k n p (sym (told-injective r (readBy limit s) e) ∙ f)
 
--- the other way: what is accepted is read
-pub accepted-read : (s : List ℕ) → Accepted s → readSheet s ≡ Course (kind s) (points s) (ticks s)
+-- the other way: what is accepted, and within the limit, is read ..
+pub within-read : (limit : ℕ) (s : List ℕ) → Accepted s → points s ≤ limit → readBy limit s ≡ Course (kind s) (points s) (ticks s)
 unfolding readBy
-accepted-read s a = sym (
-    passed s Slope (past 8) (a Slope (omega arith))
-    ∙ passed s Reach (past 7) (a Reach (omega arith))
-    ∙ passed s Leg (past 6) (a Leg (omega arith))
-    ∙ passed s Size (past 5) (a Size (omega arith))
-    ∙ passed s Points (past 4) (a Points (omega arith))
-    ∙ passed s Ends (past 3) (a Ends (omega arith))
-    ∙ passed s Edition (past 2) (a Edition (omega arith))
-    ∙ passed s Torn (past 1) (a Torn (omega arith))
+within-read limit s a h = read-alike limit s h ∙ sym (
+    passed mostPoints s Slope (past 9) (a Slope (omega arith))
+    ∙ passed mostPoints s Reach (past 8) (a Reach (omega arith))
+    ∙ passed mostPoints s Leg (past 7) (a Leg (omega arith))
+    ∙ passed mostPoints s Size (past 6) (a Size (omega arith))
+    ∙ passed mostPoints s Board (past 5) (never-at-station s)
+    ∙ passed mostPoints s Points (past 4) (a Points (omega arith))
+    ∙ passed mostPoints s Ends (past 3) (a Ends (omega arith))
+    ∙ passed mostPoints s Edition (past 2) (a Edition (omega arith))
+    ∙ passed mostPoints s Torn (past 1) (a Torn (omega arith))
     )
 
 -- what passes the eight tests is accepted; reading asks no other number
@@ -134,6 +191,7 @@ passing-accepted s p Seats h = refl
 passing-accepted s p Turn h = refl
 passing-accepted s p Grain h = refl
 passing-accepted s p Ink h = refl
+passing-accepted s p Board h = never-at-station s
 
 -- ---- the bounds: each is what the test of its number leaves
 module _ (s : List ℕ) (a : Accepted s) where
@@ -188,6 +246,10 @@ accepted-bounds s a = record {
   some-ticks = some-ticks s a;
   few-ticks = few-ticks s a;
 }
+
+-- .. at the station without a word about the limit
+pub accepted-read : (s : List ℕ) → Accepted s → readBy mostPoints s ≡ Course (kind s) (points s) (ticks s)
+accepted-read s a = within-read mostPoints s a (few s a)
 
 pub heights-kept : HeightsKept
 heights-kept s a i k =

@@ -5,22 +5,26 @@ use mathlib.Core.List.{List, [], _∷_, map}
 use Prim.Native.Nat.{ℕ}
 use lib.ListN.{drop}
 use Rattle.sheet.specs.Answers.{numberOf}
-use Rattle.sheet.specs.Reading.{applies, refuseIf, lowest, tested, mostPoints}
+use Rattle.sheet.specs.Reading.{applies, refuseIf, lowest, tested, order}
 use Rattle.sheet.specs.declared.Refusal.{Refusal}
 use Rattle.sheet.specs.declared.Reading.the-variants.{Refused}
 
--- the tests stand in the order of their numbers
-in-order : map numberOf tested ≡ 1 ∷ 2 ∷ 3 ∷ 4 ∷ 5 ∷ 6 ∷ 7 ∷ 8 ∷ []
+-- the tests stand in the order of their numbers, but for 23
+in-order : map numberOf tested ≡ 1 ∷ 2 ∷ 3 ∷ 4 ∷ 23 ∷ 5 ∷ 6 ∷ 7 ∷ 8 ∷ []
 in-order = refl
 
--- the tests after the number k
+-- .. which is the order of all numbers
+in-turn : map order tested ≡ 1 ∷ 2 ∷ 3 ∷ 4 ∷ 5 ∷ 6 ∷ 7 ∷ 8 ∷ 9 ∷ []
+in-turn = refl
+
+-- the tests after the first k
 abbrev pub past : ℕ → List Refusal
 past k = drop k tested
 
 -- the first number does not apply: the rest decides
-pub passed : (s : List ℕ) (r : Refusal) (rs : List Refusal) → applies mostPoints s r ≡ false → lowest mostPoints s rs ≡ lowest mostPoints s (r ∷ rs)
-passed s r rs e = sym (ap (λ (b : Bool). refuseIf b r (lowest mostPoints s rs)) e)
+pub passed : (limit : ℕ) (s : List ℕ) (r : Refusal) (rs : List Refusal) → applies limit s r ≡ false → lowest limit s rs ≡ lowest limit s (r ∷ rs)
+passed limit s r rs e = sym (ap (λ (b : Bool). refuseIf b r (lowest limit s rs)) e)
 
 -- it applies: it is given
-pub stopped : (s : List ℕ) (r : Refusal) (rs : List Refusal) → applies mostPoints s r ≡ true → Refused r ≡ lowest mostPoints s (r ∷ rs)
-stopped s r rs e = sym (ap (λ (b : Bool). refuseIf b r (lowest mostPoints s rs)) e)
+pub stopped : (limit : ℕ) (s : List ℕ) (r : Refusal) (rs : List Refusal) → applies limit s r ≡ true → Refused r ≡ lowest limit s (r ∷ rs)
+stopped limit s r rs e = sym (ap (λ (b : Bool). refuseIf b r (lowest limit s rs)) e)

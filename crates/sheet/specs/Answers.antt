@@ -4,11 +4,11 @@ use Prim.Native.Nat.{ℕ}
 use lib.IntN.{ℤ, pos}
 use Rattle.ends.specs.Ends.{kindNumber}
 use Rattle.sheet.specs.declared.Refusal.{Refusal}
-use Rattle.sheet.specs.declared.Refusal.the-variants.{Torn, Edition, Ends, Points, Size, Leg, Reach, Slope, Shelf, Past, Adrift, Bend, Landed, Page, Start, Shut, Apart, Crowded, Seats, Turn, Grain, Ink}
+use Rattle.sheet.specs.declared.Refusal.the-variants.{Torn, Edition, Ends, Points, Size, Leg, Reach, Slope, Shelf, Past, Adrift, Bend, Landed, Page, Start, Shut, Apart, Crowded, Seats, Turn, Grain, Ink, Board}
 use Rattle.sheet.specs.declared.Reading.{Reading}
 use Rattle.sheet.specs.declared.Reading.the-variants.{Course, Refused}
 
--- N1 to N22
+-- N1 to N23
 abbrev pub numberOf : Refusal → ℕ
 numberOf Torn = 1
 numberOf Edition = 2
@@ -32,6 +32,7 @@ numberOf Seats = 19
 numberOf Turn = 20
 numberOf Grain = 21
 numberOf Ink = 22
+numberOf Board = 23
 
 -- what a call tells: its number, or 0 where it is not refused, and its values
 pub record Told : Type 0 where

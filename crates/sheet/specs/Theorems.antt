@@ -10,25 +10,33 @@ use lib.Signed.{_≤ℤ_}
 use Rattle.ends.specs.Ends.{leastPoints}
 use Rattle.ends.specs.declared.EndKind.{EndKind}
 use Rattle.ends.specs.declared.EndKind.the-variants.{Held}
-use Rattle.sheet.specs.Answers.{numberOf}
 use Rattle.sheet.specs.Fields.{kind, points, legs, leg, ticks, waypoint, slope, sheetLength}
-use Rattle.sheet.specs.Reading.{Accepted, applies, mostPoints, longestSheet, readSheet}
+use Rattle.sheet.specs.Reading.{Accepted, applies, order, mostPoints, longestSheet, readBy}
 use Rattle.sheet.specs.declared.Refusal.{Refusal}
+use Rattle.sheet.specs.declared.Refusal.the-variants.{Board}
 use Rattle.sheet.specs.declared.Reading.the-variants.{Course, Refused}
 
--- A1: the answer is the refusal r, which applies to the sheet, and no lower one does
-pub record Lowest (s : List ℕ) (r : Refusal) : Type 0 where
-  pub answer : readSheet s ≡ Refused r
-  pub applying : applies mostPoints s r ≡ true
-  pub lower : (q : Refusal) → numberOf q < numberOf r → applies mostPoints s q ≡ false
+-- A1, A16: the answer is the refusal r, which applies to the sheet, and none that is tested before it does
+pub record Lowest (limit : ℕ) (s : List ℕ) (r : Refusal) : Type 0 where
+  pub answer : readBy limit s ≡ Refused r
+  pub applying : applies limit s r ≡ true
+  pub lower : (q : Refusal) → order q < order r → applies limit s q ≡ false
 
--- A1, A10: a sheet is accepted and read, or has exactly one refusal
+-- A1, A10, N23: by a reader of whatever limit a sheet is accepted, within the limit and read, or has exactly one refusal
 abbrev pub ReadOrRefused : Type 0
-ReadOrRefused = (s : List ℕ) → (Accepted s × (readSheet s ≡ Course (kind s) (points s) (ticks s))) ⊎ ((r : Refusal) × Lowest s r)
+ReadOrRefused = (limit : ℕ) (s : List ℕ) → (Accepted s × (readBy limit s ≡ Course (kind s) (points s) (ticks s)) × (points s ≤ limit)) ⊎ ((r : Refusal) × Lowest limit s r)
 
--- A2: a sheet that is read is accepted, and what reading answers is its fields
+-- A2: a sheet that is read is accepted and within the limit, and what reading answers is its fields
 abbrev pub ReadAccepted : Type 0
-ReadAccepted = (s : List ℕ) (k : EndKind) (n p : ℕ) → readSheet s ≡ Course k n p → Accepted s × (k ≡ kind s) × (n ≡ points s) × (p ≡ ticks s)
+ReadAccepted = (limit : ℕ) (s : List ℕ) (k : EndKind) (n p : ℕ) → readBy limit s ≡ Course k n p → Accepted s × (k ≡ kind s) × (n ≡ points s) × (p ≡ ticks s) × (points s ≤ limit)
+
+-- N23: at the station it applies to no sheet
+abbrev pub NeverAtStation : Type 0
+NeverAtStation = (s : List ℕ) → applies mostPoints s Board ≡ false
+
+-- B3, of reading: within the limit a reader answers as the station does
+abbrev pub ReadAlike : Type 0
+ReadAlike = (limit : ℕ) (s : List ℕ) → points s ≤ limit → readBy limit s ≡ readBy mostPoints s
 
 -- the bounds of an accepted sheet (N4 to N8), and those of P and of the length that follow. Of reach it is the wide span, which serves all axes.
 pub record Bounds (s : List ℕ) : Type 0 where

@@ -17,6 +17,7 @@ pub use limits::reach_outside;
 pub use limits::slope_outside;
 pub use reader::kind_of;
 pub use reader::read;
+pub use reader::read_by;
 pub use reader::read_with_sums;
 pub use reader::sheet_length;
 pub use refusals::number_of;
@@ -32,7 +33,7 @@ pub const STRIDE: usize = 16;
 
 pub const SUMS: usize = 33;
 
-// The refusals, in the order of their numbers (N1 to N22).
+// The refusals, in the order of their numbers (N1 to N23).
 pub enum Refusal {
     Torn,
     Edition,
@@ -56,6 +57,7 @@ pub enum Refusal {
     Turn,
     Grain,
     Ink,
+    Board,
 }
 
 // A2: reading's answer, the kind, N and P; or its refusal.

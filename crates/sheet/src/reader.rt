@@ -1,15 +1,17 @@
-// The reader (A2), in one walk over the sheet.
+// The reader (A2, A16), in one walk over the sheet. Its largest N is a number that is handed over: 512 at the station, less on the board.
 ghost use mathlib.Core.Path.{_≡_};
+ghost use mathlib.Core.Bool.{cond, _||_};
 ghost use mathlib.Core.List.{[], _∷_};
 ghost use Prim.Native.Nat.{_+_, _*_, _≤_, _<_};
+ghost use lib.Dec.{ltb};
 ghost use lib.IntN.{natAbs};
 ghost use lib.ListN.{length};
 ghost use Rattle.sheet.specs.Answers.{told};
 ghost use Rattle.sheet.specs.Bytes.{be16, be32, signed32, anyBelow};
 ghost use Rattle.sheet.specs.Fields.{kindField, kindOf, legs, waypointsFrom, waypoint, slopesFrom, slopeBytes, sheetLength};
-ghost use Rattle.sheet.specs.Reading.{reachOutside, slopeOutside, slopesOutside, mostPoints, longestSheet, lowest, readSheet};
+ghost use Rattle.sheet.specs.Reading.{reachOutside, slopeOutside, slopesOutside, mostPoints, longestSheet, lowest, readBy, readSheet};
 ghost use Rattle.sheet.specs.Carried.{Carried, CarriedBy, mostSums};
-ghost use Rattle.sheet.specs.declared.Refusal.the-variants.{Edition, Ends, Points, Size, Leg, Reach, Slope};
+ghost use Rattle.sheet.specs.declared.Refusal.the-variants.{Edition, Ends, Points, Size, Leg, Reach, Slope, Board};
 use crate::LONGEST_SHEET;
 use crate::MOST_POINTS;
 use crate::Reading;
@@ -124,6 +126,23 @@ fn slopes_outside(s: &[u8], kind: EndKind, from: usize) -> bool
     }
 }
 
+// N4 and N23: more waypoints than any sheet may have, or than the reader has room for.
+fn is_over(limit: usize, n: usize) -> bool
+    ensures { λ r. ⌜ r ≡ (ltb mostPoints n || ltb limit n) ⌝ }
+{
+    (MOST_POINTS < n) | (limit < n)
+}
+
+// Which of the two. (Behind one test: as two branches in `read_fields` a small sheet takes twice as long.)
+fn over(n: usize) -> Refusal
+    ensures { λ r. ⌜ r ≡ cond (ltb mostPoints n) Points Board ⌝ }
+{
+    if MOST_POINTS < n {
+        return Refusal::Points;
+    }
+    Refusal::Board
+}
+
 // N6 to N8, of a sheet to which no lower number applies: the first that does, or the course (A1).
 fn read_body(s: &[u8], kind: EndKind, n: usize, sums: &mut [u32; SUMS]) -> Reading
     requires { ⌜ (kind ≡ kindOf (kindField (now s))) × (n ≡ be16 (now s) 6) × (2 ≤ n) × (n ≤ mostPoints) × (length (now s) ≡ sheetLength kind n) × (length (now sums) ≡ mostSums) ⌝ }
@@ -149,11 +168,11 @@ fn read_body(s: &[u8], kind: EndKind, n: usize, sums: &mut [u32; SUMS]) -> Readi
     }
 }
 
-// N2 to N5, of a sheet that is not torn, then the body. (Apart from N1: behind seven tests in one function the compiler takes the body for unlikely, and the
+// N2 to N5 and N23, of a sheet that is not torn, then the body. (Apart from N1: behind seven tests in one function the compiler takes the body for unlikely, and the
 // answer goes through memory twice, which is half of a small sheet's time.)
-fn read_fields(s: &[u8], sums: &mut [u32; SUMS]) -> Reading
+fn read_fields(limit: usize, s: &[u8], sums: &mut [u32; SUMS]) -> Reading
     requires { ⌜ (8 ≤ length (now s)) × (length (now sums) ≡ mostSums) ⌝ }
-    ensures answer { λ r. ⌜ r ≡ lowest mostPoints (now (s .entry)) (Edition ∷ Ends ∷ Points ∷ Size ∷ Leg ∷ Reach ∷ Slope ∷ []) ⌝ }
+    ensures answer { λ r. ⌜ r ≡ lowest limit (now (s .entry)) (Edition ∷ Ends ∷ Points ∷ Board ∷ Size ∷ Leg ∷ Reach ∷ Slope ∷ []) ⌝ }
     ensures sums { λ r. ⌜ CarriedBy r (now (s .entry)) (now (sums .exit)) ⌝ }
 {
     if s[4] != 1 {
@@ -168,8 +187,8 @@ fn read_fields(s: &[u8], sums: &mut [u32; SUMS]) -> Reading
     if n < ends::least_points(kind) {
         return Reading::Refused(Refusal::Points);
     }
-    if MOST_POINTS < n {
-        return Reading::Refused(Refusal::Points);
+    if is_over(limit, n) {
+        return Reading::Refused(over(n));
     }
     if s.len() != sheet_length(kind, n) {
         return Reading::Refused(Refusal::Size);
@@ -178,9 +197,9 @@ fn read_fields(s: &[u8], sums: &mut [u32; SUMS]) -> Reading
 }
 
 // N1, then the fields: whatever the bytes, they are read or refused (D1). The sums of a course's legs stay behind (P7).
-pub fn read_with_sums(s: &[u8], sums: &mut [u32; SUMS]) -> Reading
+pub fn read_with_sums(limit: usize, s: &[u8], sums: &mut [u32; SUMS]) -> Reading
     requires { ⌜ length (now sums) ≡ mostSums ⌝ }
-    ensures answer { λ r. ⌜ told r ≡ told (readSheet (now (s .entry))) ⌝ }
+    ensures answer { λ r. ⌜ told r ≡ told (readBy limit (now (s .entry))) ⌝ }
     ensures sums { λ r. ⌜ CarriedBy r (now (s .entry)) (now (sums .exit)) ⌝ }
 {
     let length = s.len();
@@ -190,13 +209,20 @@ pub fn read_with_sums(s: &[u8], sums: &mut [u32; SUMS]) -> Reading
     if read32(s, 0) != length as u64 {
         return Reading::Refused(Refusal::Torn);
     }
-    read_fields(s, sums)
+    read_fields(limit, s, sums)
 }
 
 // The answer alone, for the calls that search no tick's leg.
+pub fn read_by(limit: usize, s: &[u8]) -> Reading
+    ensures { λ r. ⌜ told r ≡ told (readBy limit (now (s .entry))) ⌝ }
+{
+    let mut sums = [0u32; SUMS];
+    read_with_sums(limit, s, &mut sums)
+}
+
+// The station's reading.
 pub fn read(s: &[u8]) -> Reading
     ensures { λ r. ⌜ told r ≡ told (readSheet (now (s .entry))) ⌝ }
 {
-    let mut sums = [0u32; SUMS];
-    read_with_sums(s, &mut sums)
+    read_by(MOST_POINTS, s)
 }

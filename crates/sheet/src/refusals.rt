@@ -3,7 +3,7 @@ ghost use mathlib.Core.Path.{_≡_};
 ghost use Rattle.sheet.specs.Answers.{numberOf};
 use crate::Refusal;
 
-// N1 to N22.
+// N1 to N23.
 pub fn number_of(refusal: Refusal) -> u64
     ensures { λ r. ⌜ r ≡ numberOf refusal ⌝ }
 {
@@ -30,5 +30,6 @@ pub fn number_of(refusal: Refusal) -> u64
         Refusal::Turn => 20,
         Refusal::Grain => 21,
         Refusal::Ink => 22,
+        Refusal::Board => 23,
     }
 }

@@ -1,21 +1,21 @@
 -- Demand 3 (group C), proved. One axis is the spline crate's; here it meets the sheet, the list and the tests.
-use mathlib.Core.Path.{_≡_, refl, _∙_, ap, subst⁻¹}
+use mathlib.Core.Path.{_≡_, refl, _∙_, ap, subst⁻¹, sym}
 use mathlib.Core.Bool.{Bool, false}
 use mathlib.Core.List.{List}
 use Prim.Native.Nat.{ℕ, suc, _*_, _^_, _≤_, _<_}
 use native.Mathlib.Omega.{arith}
 use lib.IntN.{ℤ, pos, negsuc, natAbs}
-use lib.ListN.{length}
+use lib.ListN.{length, take}
 use borrow.Author.Tests.{le-ltb}
 use Rattle.ends.specs.declared.EndKind.{EndKind}
 use Rattle.ends.specs.declared.EndKind.the-variants.{Free, Held, Closed}
 use Rattle.sheet.specs.Answers.{Told}
 use Rattle.sheet.specs.Bytes.{anyBelow}
 use Rattle.sheet.specs.Fields.{kind, points, legs, leg, ticks, waypoint}
-use Rattle.sheet.specs.Reading.{outside, readSheet, Accepted}
+use Rattle.sheet.specs.Reading.{outside, readSheet, Accepted, mostPoints}
 use Rattle.sheet.specs.declared.Refusal.the-variants.{Shelf, Past, Adrift, Bend}
 use Rattle.sheet.proofs.ByKind.{legs-at-most}
-use Rattle.sheet.proofs.Laws.{accepted-read}
+use Rattle.sheet.proofs.Laws.{accepted-read, accepted-bounds}
 use Rattle.answers.specs.Answers.{passOn, guard}
 use Rattle.systems.specs.Passes.{at, sweep}
 use Rattle.spline.specs.Spline as spline
@@ -33,9 +33,11 @@ use Rattle.runner.specs.Ticks.{runner, isOpen, past, spotAt}
 use Rattle.runner.specs.Steps.{adrift}
 use Rattle.runner.proofs.Standing.{Standing, on-leg, at-end, standing, tick-stands}
 use Rattle.runner.specs.declared.Runner.{Runner}
-use Rattle.place.specs.Places.{bendOf, bendOutside, endOf, placed, placeOn, placeAtTick, placeOfRunner}
-use Rattle.station.specs.Claim.{Own, Answers, Answered, Claim}
+use Rattle.place.specs.Places.{bendOf, bendOutside, endOf, placed, placeOn, placeAtTick, placeOfRunner, placeOfRunnerBy, placeAtTickBy}
+use Rattle.station.specs.Claim.{Own, OwnBy, Answers, Answered, Claim, ClaimBy}
 use Rattle.station.proofs.Own.{own-long, own-bend}
+use Rattle.station.proofs.Alike.{within-both}
+use Rattle.station.specs.Alike.{Alike}
 
 -- a number of at most a in size is not outside -a to a
 within-limits : (a : ℕ) (z : ℤ) → natAbs z ≤ suc a → outside (suc a) (suc a) z ≡ false
@@ -106,13 +108,13 @@ module _ (s : List ℕ) (accepted : Accepted s) where
     }
 
     by-runner : (r : Runner) → r .leg < legs s → adrift s r ≡ false → Answered s list r (placeOfRunner s list r)
-    unfolding placeOfRunner
+    unfolding placeOfRunnerBy
     by-runner r l fits = answered r l fits (placeOfRunner s list r)
         (past-shelf list (own-long s list own) _ ∙ ap (λ (b : Bool). guard b Adrift (guard (bendOutside s list (r .leg)) Bend (placed s list r))) fits)
 
     -- a tick that the course answers is not past its end, and stands at a runner that fits
     by-tick : (t : ℕ) → past s t ≡ false → adrift s (spotAt s t) ≡ false → Answered s list (spotAt s t) (placeAtTick s list t)
-    unfolding placeAtTick
+    unfolding placeAtTickBy
     by-tick t now fits = answered (spotAt s t) (leg-fits s (spotAt s t) fits) fits (placeAtTick s list t)
         (past-shelf list (own-long s list own) _ ∙ ap (λ (b : Bool). guard b Past (guard (bendOutside s list (spotAt s t .leg)) Bend (placed s list (spotAt s t)))) now)
 
@@ -129,7 +131,27 @@ pub claim : Claim
 claim s accepted = record {
   exists = λ axis h. spline-exists (course s axis) (course-in-bounds s accepted axis h);
   same = λ axis h. one-curve (course s axis) (course-in-bounds s accepted axis h);
-  laying = λ list long. let e = done-answer s (length list) accepted (omega arith) in (e, done-list s list e);
+  laying = λ list long. let e = done-answer mostPoints s (length list) accepted (accepted-bounds s accepted .few) (omega arith) in (e, done-list mostPoints s list e);
   by-tick = λ list own t h. let (now, fits) = answerable s accepted t h in by-tick s accepted list own t now fits;
   by-runner = λ list own r fits. by-runner s accepted list own r (omega (arith, leg-fits)) fits;
 }
+
+-- ---- within its limit a reader answers as the station does, so the claim is the station's
+module _ (limit : ℕ) (s : List ℕ) (a : Alike limit mostPoints s) where
+  stations-own : (list : List ℤ) → OwnBy limit s list → Own s list
+  stations-own list own = record {
+    lent = own .lent;
+    not-refused = sym (a .laying (length (own .lent))) ∙ own .not-refused;
+    holds = own .holds ∙ ap (take (3 * points s)) (a .list (own .lent));
+  }
+
+pub claim-by : ClaimBy
+claim-by limit s accepted within =
+    let a = within-both limit mostPoints s within (accepted-bounds s accepted .few) in let d = claim s accepted in
+    record {
+      exists = d .exists;
+      same = d .same;
+      laying = λ list long. let l = d .laying list long in (a .laying (length list) ∙ l .0, a .list list ∙ l .1);
+      by-tick = λ list own t h. subst⁻¹ (Answered s list (spotAt s t)) (a .by-tick list t) (d .by-tick list (stations-own limit s a list own) t h);
+      by-runner = λ list own r fits. subst⁻¹ (Answered s list r) (a .by-runner list r) (d .by-runner list (stations-own limit s a list own) r fits);
+    }

@@ -9,6 +9,8 @@ use lib.IntN.{ℤ, pos}
 use lib.ListN.{length, take, drop, replicate, length-append, length-take, length-replicate, List·getD-append}
 use lib.Seq.{getD-take, getD-append-add, take-at}
 use Rattle.sheet.specs.Fields.{points}
+use Rattle.sheet.specs.Reading.{mostPoints}
+use Rattle.sheet.proofs.Laws.{accepted-bounds}
 use Rattle.systems.specs.Passes.{at}
 use Rattle.systems.proofs.Below.{below}
 use Rattle.systems.proofs.Lists.{length-passes}
@@ -22,7 +24,7 @@ use Rattle.station.proofs.Tried as tried
 
 -- the laying out itself is the one that C1 asks for
 pub own-laid : OwnLaid
-own-laid s accepted list long = record { lent = list; not-refused = done-answer s (length list) accepted long; holds = refl }
+own-laid s accepted list long = record { lent = list; not-refused = done-answer mostPoints s (length list) accepted (accepted-bounds s accepted .few) long; holds = refl }
 
 at-first : (xs ys : List ℤ) (j i : ℕ) → j ≡ i → i < length xs → at (xs ++ ys) j ≡ at xs i
 at-first xs ys j i e h = ap (λ (k : ℕ). at (xs ++ ys) k) e ∙ List·getD-append xs ys (pos 0) i h
@@ -67,14 +69,14 @@ module _ (s : List ℕ) where
   own-long list o = omega (
     arith,
     simp length-take at (ap length (o .holds)),
-    simp length-append at (ap length (done-list s (o .lent) (o .not-refused))),
+    simp length-append at (ap length (done-list mostPoints s (o .lent) (o .not-refused))),
     length-allBends,
   )
 
   own-first : (list : List ℤ) → Own s list → take (3 * points s) list ≡ allBends s
   own-first list o =
       o .holds
-      ∙ ap (take (3 * points s)) (done-list s (o .lent) (o .not-refused))
+      ∙ ap (take (3 * points s)) (done-list mostPoints s (o .lent) (o .not-refused))
       ∙ take-at (allBends s) (drop (3 * points s) (o .lent)) (3 * points s) length-allBends
 
   -- .. and the number at axis × N + i is the axis' own

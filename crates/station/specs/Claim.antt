@@ -1,5 +1,6 @@
 -- Demand 3 (D3, group C) as one claim about every accepted sheet; a page to be read alone. The promises of layout::lay_out, place::place_at_tick and
--- place::place_of_runner are equations with the very definitions that it speaks of: layOut and laidOut, placeAtTick, placeOfRunner. proofs/Claim has the proof.
+-- place::place_of_runner are equations with the very definitions that it speaks of: layOut and laidOut, placeAtTick, placeOfRunner. Each is the same call of a reader
+-- with a limit, layOutBy and the like, at 512 waypoints, which is the station's. proofs/Claim has the proof.
 use mathlib.Core.Path.{_≡_}
 use mathlib.Core.Bool.{false}
 use mathlib.Core.List.{List, _++_}
@@ -10,23 +11,27 @@ use Rattle.ends.specs.declared.EndKind.{EndKind}
 use Rattle.ends.specs.declared.EndKind.the-variants.{Free, Held, Closed}
 use Rattle.sheet.specs.Answers.{Told}
 use Rattle.sheet.specs.Fields.{kind, points, ticks}
-use Rattle.sheet.specs.Reading.{Accepted}
+use Rattle.sheet.specs.Reading.{Accepted, mostPoints}
 use Rattle.answers.specs.Answers.{done}
 use Rattle.spline.specs.Spline.{Curve, Exact, SameCurve, valueAt, ExactSpline}
 use Rattle.spline.specs.Position.{Near}
 use Rattle.layout.specs.Course.{course}
-use Rattle.layout.specs.Layout.{allBends, layOut, laidOut}
+use Rattle.layout.specs.Layout.{allBends, layOutBy, laidOut, laidOutBy}
 use Rattle.runner.specs.Ticks.{spotAt}
 use Rattle.runner.specs.Steps.{adrift}
 use Rattle.runner.specs.declared.Runner.{Runner}
-use Rattle.place.specs.Places.{placeOn, placed, placeAtTick, placeOfRunner}
+use Rattle.place.specs.Places.{placeOn, placed, placeAtTickBy, placeOfRunnerBy}
 
--- C1: the list has the station's own bend numbers for the sheet s. Its first 3N entries are those that a laying out of s, done, has written into some list;
--- how they came into this one is not asked.
-pub record Own (s : List ℕ) (list : List ℤ) : Type 0 where
+-- C1: the list has the own bend numbers, for the sheet s, of a reader with a limit. Its first 3N entries are those that a laying out of s, done, has written into
+-- some list; how they came into this one is not asked.
+pub record OwnBy (limit : ℕ) (s : List ℕ) (list : List ℤ) : Type 0 where
   pub lent : List ℤ
-  pub not-refused : layOut s (length lent) ≡ done
-  pub holds : take (3 * points s) list ≡ take (3 * points s) (laidOut s lent)
+  pub not-refused : layOutBy limit s (length lent) ≡ done
+  pub holds : take (3 * points s) list ≡ take (3 * points s) (laidOutBy limit s lent)
+
+-- the station's
+abbrev pub Own : List ℕ → List ℤ → Type 0
+Own = OwnBy mostPoints
 
 -- C6: t is a tick of a course whose legs add up to p
 abbrev pub Answers : EndKind → ℕ → ℕ → Type 0
@@ -39,21 +44,29 @@ pub record Answered (s : List ℕ) (list : List ℤ) (r : Runner) (answer : Told
   pub place : answer ≡ placed s list r
   pub near : (axis : ℕ) → axis < 3 → (f : Curve) → Exact (course s axis) f → Near (f .denominator) (valueAt (f .cubic (r .leg)) (r .offset)) (placeOn s list r axis)
 
-pub record Demand3 (s : List ℕ) : Type 0 where
+pub record Demand3By (limit : ℕ) (s : List ℕ) : Type 0 where
   -- C4: on each axis there is an exact spline ..
   pub exists : (axis : ℕ) → axis < 3 → ExactSpline (course s axis)
   -- .. and any two are the same
   pub same : (axis : ℕ) → axis < 3 → (a b : Curve) → Exact (course s axis) a → Exact (course s axis) b → SameCurve (course s axis) a b
   -- C5: a laying out into whatever list is long enough is done; what it writes is the bend numbers of forty passes, and the rest of the list stays
-  pub laying : (list : List ℤ) → 3 * points s ≤ length list → (layOut s (length list) ≡ done) × (laidOut s list ≡ allBends s ++ drop (3 * points s) list)
+  pub laying : (list : List ℤ) → 3 * points s ≤ length list → (layOutBy limit s (length list) ≡ done) × (laidOutBy limit s list ≡ allBends s ++ drop (3 * points s) list)
   -- C6: with own bend numbers each tick of the course is answered, at the leg and offset that it names (C2) ..
-  pub by-tick : (list : List ℤ) → Own s list → (t : ℕ) → Answers (kind s) (ticks s) t → Answered s list (spotAt s t) (placeAtTick s list t)
+  pub by-tick : (list : List ℤ) → OwnBy limit s list → (t : ℕ) → Answers (kind s) (ticks s) t → Answered s list (spotAt s t) (placeAtTickBy limit s list t)
   -- C7: .. and each runner that is not adrift, at its own
-  pub by-runner : (list : List ℤ) → Own s list → (r : Runner) → adrift s r ≡ false → Answered s list r (placeOfRunner s list r)
+  pub by-runner : (list : List ℤ) → OwnBy limit s list → (r : Runner) → adrift s r ≡ false → Answered s list r (placeOfRunnerBy limit s list r)
+
+-- the station's
+abbrev pub Demand3 : List ℕ → Type 0
+Demand3 = Demand3By mostPoints
 
 -- C9: all of this, of every accepted sheet
 abbrev pub Claim : Type 0
 Claim = (s : List ℕ) → Accepted s → Demand3 s
+
+-- B4: .. and by a reader of whatever limit, of every accepted sheet within it
+abbrev pub ClaimBy : Type 0
+ClaimBy = (limit : ℕ) (s : List ℕ) → Accepted s → points s ≤ limit → Demand3By limit s
 
 -- C1: own numbers are there after every laying out that is done
 abbrev pub OwnLaid : Type 0

@@ -1,2 +1,3 @@
--- Demand 3.
+-- Demand 3; and readers with two limits.
 pub mod Claim
+pub mod Alike

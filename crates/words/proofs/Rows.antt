@@ -7,7 +7,7 @@ use lib.ListN.{length, take, drop}
 use Rattle.bytes.specs.Bytes.{slice, indexAfter, indexOf}
 use Rattle.sheet.specs.Answers.{numberOf}
 use Rattle.sheet.specs.declared.Refusal.{Refusal}
-use Rattle.sheet.specs.declared.Refusal.the-variants.{Torn, Edition, Ends, Points, Size, Leg, Reach, Slope, Shelf, Past, Adrift, Bend, Landed, Page, Start, Shut, Apart, Crowded, Seats, Turn, Grain, Ink}
+use Rattle.sheet.specs.declared.Refusal.the-variants.{Torn, Edition, Ends, Points, Size, Leg, Reach, Slope, Shelf, Past, Adrift, Bend, Landed, Page, Start, Shut, Apart, Crowded, Seats, Turn, Grain, Ink, Board}
 use Rattle.sheet.proofs.Told.{number-positive}
 use Rattle.words.specs.Words.{refusalLine, refusalRows}
 
@@ -47,6 +47,7 @@ row-of Seats = (omega arith, omega arith, refl, refl)
 row-of Turn = (omega arith, omega arith, refl, refl)
 row-of Grain = (omega arith, omega arith, refl, refl)
 row-of Ink = (omega arith, omega arith, refl, refl)
+row-of Board = (omega arith, omega arith, refl, refl)
 
 -- under a hundred rows: the code's products fit
 few-rows : length refusalRows ≤ 19 * 99

@@ -4,7 +4,7 @@ use Prim.Native.Nat.{ℕ}
 use lib.ListN.{take, replicate}
 use Rattle.sheet.specs.Answers.{numberOf}
 use Rattle.sheet.specs.declared.Refusal.{Refusal}
-use Rattle.sheet.specs.declared.Refusal.the-variants.{Torn, Edition, Ends, Points, Size, Leg, Reach, Slope, Shelf, Past, Adrift, Bend, Landed, Page, Start, Shut, Apart, Crowded, Seats, Turn, Grain, Ink}
+use Rattle.sheet.specs.declared.Refusal.the-variants.{Torn, Edition, Ends, Points, Size, Leg, Reach, Slope, Shelf, Past, Adrift, Bend, Landed, Page, Start, Shut, Apart, Crowded, Seats, Turn, Grain, Ink, Board}
 use Rattle.lines.specs.Ascii.{ascii}
 use Rattle.lines.specs.Lines.{digitsWithin}
 
@@ -32,6 +32,7 @@ word Seats = ascii "seats"
 word Turn = ascii "turn"
 word Grain = ascii "grain"
 word Ink = ascii "ink"
+word Board = ascii "board"
 
 -- T4: `refused`, the number in decimal, the word
 abbrev pub refusalLine : Refusal → List ℕ
@@ -45,4 +46,4 @@ row r = take 19 (refusalLine r ++ replicate 19 32)
 unfoldable pub refusalRows : List ℕ
 refusalRows =
     row Torn ++ row Edition ++ row Ends ++ row Points ++ row Size ++ row Leg ++ row Reach ++ row Slope ++ row Shelf ++ row Past ++ row Adrift ++ row Bend ++ row Landed ++ row Page ++ row Start
-    ++ row Shut ++ row Apart ++ row Crowded ++ row Seats ++ row Turn ++ row Grain ++ row Ink
+    ++ row Shut ++ row Apart ++ row Crowded ++ row Seats ++ row Turn ++ row Grain ++ row Ink ++ row Board

@@ -41,6 +41,7 @@ pub fn put_refusal(out: &mut [u8], refusal: Refusal) -> usize
                  refused 19 seats\n  \
                  refused 20 turn\n   \
                  refused 21 grain\n  \
-                 refused 22 ink\n    ";
+                 refused 22 ink\n    \
+                 refused 23 board\n  ";
     put_row(rows, refusal, out)
 }

@@ -1,9 +1,9 @@
 -- `exports::station_back` meets its contract: a slice with three numbers lends a runner, and a shorter one none; telling writes the answer.
 use mathlib.Core.Path.{_∙_}
 use Rattle.runner.specs.Backs.{backed}
-use Rattle.exports.specs.Written.{unsigned}
-use Rattle.exports.proofs.Tell.{tells-on}
-use Rattle.exports.proofs.Lent.{runner-lent, none-lent}
+use Rattle.boundary.specs.Written.{unsigned}
+use Rattle.boundary.proofs.Tell.{tells-on}
+use Rattle.boundary.proofs.Lent.{runner-lent, none-lent}
 use borrow.Author.Needs.{needs}
 use Rattle.exports.proofs.station_back.Statement.{statement}
 use Rattle.exports.proofs.station_back.Tie as tie
@@ -21,7 +21,7 @@ returns : tie.Need-returns
 returns c =
     let t = c .before .before in let s = t .before .before .before .before .before .before .args in
     let short = t .before .before .before .if1 .taken in
-    tells-on unsigned (s .lent .now) (t .tell-runner .ensures) (t .before .before .no-runner .ensures ∙ none-lent backed (s .sheet .now) (s .lent .now) short)
+    tells-on unsigned (s .lent .now) (t .tell-runner .ensures) (t .before .before .no-runner .ensures ∙ none-lent _ backed (s .sheet .now) (s .lent .now) short)
 
 slice-read-leg : tie.Need-slice-read-leg
 slice-read-leg c = search needs
@@ -45,7 +45,7 @@ returns-2 : tie.Need-returns-2
 returns-2 c =
     let t = c .before .before in let s = t .before .before .before .before .before .before .before .before .before .args in
     let room = t .before .before .before .before .before .before .if1 .left in
-    tells-on unsigned (s .lent .now) (t .tell-runner2 .ensures) (t .before .before .backed .ensures ∙ runner-lent backed (s .sheet .now) (s .lent .now) room)
+    tells-on unsigned (s .lent .now) (t .tell-runner2 .ensures) (t .before .before .backed .ensures ∙ runner-lent _ backed (s .sheet .now) (s .lent .now) room)
 
 pub station-back-spec : {M : Type 1} → statement M
 station-back-spec =

@@ -1,6 +1,6 @@
 -- `exports::station_join` meets its contract: the two sheets are joined, and the joined one's length told.
-use Rattle.exports.specs.Written.{unsigned}
-use Rattle.exports.proofs.Tell.{tells-on}
+use Rattle.boundary.specs.Written.{unsigned}
+use Rattle.boundary.proofs.Tell.{tells-on}
 use borrow.Author.Needs.{needs}
 use Rattle.exports.proofs.station_join.Statement.{statement}
 use Rattle.exports.proofs.station_join.Tie as tie

@@ -2,8 +2,8 @@
 use mathlib.Core.Path.{ap, _∙_}
 use mathlib.Core.List.{List}
 use Prim.Native.Nat.{ℕ}
-use Rattle.exports.specs.Written.{put, signed}
-use Rattle.exports.proofs.Tell.{tells-on}
+use Rattle.boundary.specs.Written.{put, signed}
+use Rattle.boundary.proofs.Tell.{tells-on}
 use borrow.Author.Needs.{needs}
 use Rattle.exports.proofs.station_round.Statement.{statement}
 use Rattle.exports.proofs.station_round.Tie as tie

@@ -4,8 +4,8 @@ use borrow.Author.Needs.{needs}
 use lib.ListN.{length}
 use Rattle.integers.proofs.Machine.{back}
 use Rattle.strokes.specs.Strokes.{strokesAnswer, drawnInto}
-use Rattle.exports.specs.Written.{unsigned}
-use Rattle.exports.proofs.Tell.{tells-on}
+use Rattle.boundary.specs.Written.{unsigned}
+use Rattle.boundary.proofs.Tell.{tells-on}
 use Rattle.exports.proofs.station_strokes.Statement.{statement}
 use Rattle.exports.proofs.station_strokes.Tie as tie
 

@@ -1,6 +1,6 @@
 -- `exports::station_write` meets its contract: the sheet is written, and its length told.
-use Rattle.exports.specs.Written.{unsigned}
-use Rattle.exports.proofs.Tell.{tells-on}
+use Rattle.boundary.specs.Written.{unsigned}
+use Rattle.boundary.proofs.Tell.{tells-on}
 use borrow.Author.Needs.{needs}
 use Rattle.exports.proofs.station_write.Statement.{statement}
 use Rattle.exports.proofs.station_write.Tie as tie

@@ -4,8 +4,8 @@ use mathlib.Core.List.{[]}
 use native.Mathlib.Omega.{arith}
 use Rattle.seat.specs.Serving.{toldNext}
 use Rattle.seat.specs.declared.NextTurn.{NextTurn}
-use Rattle.exports.specs.Written.{put}
-use Rattle.exports.proofs.Put.{put-room}
+use Rattle.boundary.specs.Written.{put}
+use Rattle.boundary.proofs.Put.{put-room}
 use borrow.Author.Needs.{needs}
 use Rattle.exports.proofs.tell_turn.Statement.{statement}
 use Rattle.exports.proofs.tell_turn.Tie as tie

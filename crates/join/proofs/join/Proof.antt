@@ -48,7 +48,7 @@ module _ (k : tie.After-known-told) where
   n = k .before .reading .given .0 .1 .0
 
   first-read : Accepted s × (k .before .reading .given .0 .0 ≡ kind s) × (n ≡ points s) × (k .before .reading .given .0 .1 .1 .0 ≡ ticks s)
-  first-read = let r = k .before .before .before .read in course-read s (r .result) _ _ _ (r .ensures) (k .before .reading .given .1)
+  first-read = let r = k .before .before .before .read in let c = course-read _ s (r .result) _ _ _ (r .ensures) (k .before .reading .given .1) in (c .0, c .1, c .2, c .3)
 
 -- ---- .. and the second
 abbrev before-second : tie.After-known-told2 → tie.After-known-told
@@ -60,7 +60,7 @@ module _ (q : tie.After-known-told2) where
 
   second-read : Accepted (t (before-second q)) × (q .before .other .given .0 .0 ≡ kind (t (before-second q))) × (m ≡ points (t (before-second q)))
       × (q .before .other .given .0 .1 .1 .0 ≡ ticks (t (before-second q)))
-  second-read = let r = q .before .before .before .read2 in course-read (t (before-second q)) (r .result) _ _ _ (r .ensures) (q .before .other .given .1)
+  second-read = let r = q .before .before .before .read2 in let c = course-read _ (t (before-second q)) (r .result) _ _ _ (r .ensures) (q .before .other .given .1) in (c .0, c .1, c .2, c .3)
 
 abbrev read-both : tie.After-is-shut2 → tie.After-known-told2
 read-both x = x .before .before
@@ -129,7 +129,7 @@ unfolding joinSheets
 returns c =
     let f = c .before in let r = f .before .before in let a = r .before .before .before .before .args in
     kept (a .first .now) (a .second .now) (a .sheet .now) (c .refusal-of .result)
-    (passed-on (a .first .now) (r .read .result) (r .read .ensures) _ _ _ (f .enum-told .given .1) (c .refusal-of .ensures))
+    (passed-on _ (a .first .now) (r .read .result) (r .read .ensures) _ _ _ (f .enum-told .given .1) (c .refusal-of .ensures))
 
 read-requires-2 : tie.Need-read-requires-2
 read-requires-2 c κs = search needs
@@ -147,7 +147,7 @@ returns-2 : tie.Need-returns-2
 returns-2 c =
     let f = c .before in let r = f .before .before in let k = r .before in
     kept (s k) (t k) (out k) (c .refusal-of2 .result)
-    (passed-on (t k) (r .read2 .result) (r .read2 .ensures) _ _ _ (f .enum-told2 .given .1) (c .refusal-of2 .ensures) ∙ after-first (s k) (t k) (length (out k)) (first-read k .0))
+    (passed-on _ (t k) (r .read2 .result) (r .read2 .ensures) _ _ _ (f .enum-told2 .given .1) (c .refusal-of2 .ensures) ∙ after-first (s k) (t k) (length (out k)) (first-read k .0))
 
 is-shut-requires : tie.Need-is-shut-requires
 is-shut-requires c κs = search needs

@@ -55,7 +55,7 @@ returns : tie.Need-returns
 returns c =
     let t = c .before .before in let r = t .before .before in let g = r .before .before .args in
     shut-out (g .s .now) (g .list .now) (g .at) (c .kept .result) (g .seats) (g .turn) (c .before .refusal-of .result)
-    (λ rest. passed-on (g .s .now) _ (r .read .ensures) _ _ _ (t .enum-told .given .1) (c .before .refusal-of .ensures)) (c .kept .ensures)
+    (λ rest. passed-on _ (g .s .now) _ (r .read .ensures) _ _ _ (t .enum-told .given .1) (c .before .refusal-of .ensures)) (c .kept .ensures)
 
 is-short-requires : tie.Need-is-short-requires
 is-short-requires c κs = few-points (told-course c)
@@ -92,7 +92,7 @@ next-turn-requires c κs = search needs
 
 fly-requires : tie.Need-fly-requires
 fly-requires c κs =
-    let e = c .before .before .before in let w = e .before in let k = w .before in let r = read-accepted _ _ _ _ (told-course k .read) in
+    let e = c .before .before .before in let w = e .before in let k = w .before in let r = read-accepted _ _ _ _ _ (told-course k .read) in
     record { accepted = r .0; is-kind = r .1; is-points = r .2; room = is-short w _ (e .if1 .left) }
 
 returns-5 : tie.Need-returns-5

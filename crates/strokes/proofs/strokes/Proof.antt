@@ -70,7 +70,7 @@ module _ (c : tie.After-leg-count) where
   begun = c .before .before .before .before .before
 
   is-points : n begun ≡ points (s begun)
-  is-points = read-accepted (s begun) _ (n begun) _ (told begun .read) .2
+  is-points = read-accepted _ (s begun) _ (n begun) _ (told begun .read) .2
 
   is-legs : c .leg-count .result ≡ legs (s begun)
   is-legs = told begun .is-read _ (c .leg-count .ensures) .is-legs
@@ -100,7 +100,7 @@ unfolding strokesAnswer drawnInto
 returns c =
     let t = c .before in let r = t .before .before in let a = r .before .before .before .args in
     refused-by (c .refusal-of .result) (strokeEnds (a .s .now) (a .list .now) (natAbs (a .tolerance))) (a .ends .now)
-    (passed-on (a .s .now) _ (r .read .ensures) _ _ _ (t .enum-told .given .1) (c .refusal-of .ensures))
+    (passed-on _ (a .s .now) _ (r .read .ensures) _ _ _ (t .enum-told .given .1) (c .refusal-of .ensures))
 
 is-short-requires : tie.Need-is-short-requires
 is-short-requires c κs = few-points (told c)

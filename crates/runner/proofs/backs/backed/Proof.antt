@@ -47,7 +47,7 @@ unfolding backed
 returns c =
     let t = c .before in
     let r = t .before .before in
-    passed-on (r .before .before .args .s .now) _ (r .read .ensures) _ _ _ (t .enum-told .given .1) (c .refusal-of .ensures)
+    passed-on _ (r .before .before .args .s .now) _ (r .read .ensures) _ _ _ (t .enum-told .given .1) (c .refusal-of .ensures)
 
 leg-count-requires : tie.Need-leg-count-requires
 leg-count-requires c κs = told-course c .some

@@ -20,7 +20,7 @@ returns c =
     let a = c .before .before .before .args in
     let s = a .s .now in
     let told = c .before .backed .ensures in
-    (c .kept .ensures .0 ∙ ap bare told, c .kept .ensures .1 ∙ kept-left s (a .at) (atStart (a .at)) Start (movedBack s (a .at)) (c .before .backed .result) told)
+    (c .kept .ensures .0 ∙ ap bare told, c .kept .ensures .1 ∙ kept-left _ s (a .at) (atStart (a .at)) Start (movedBack s (a .at)) (c .before .backed .result) told)
 
 pub backward-spec : {M : Type 1} → statement M
 backward-spec = tie.close (tie.spec backed-requires kept-requires returns)

@@ -51,12 +51,12 @@ kept-sums : (c : tie.After-add-legs) → Carried (S (c .before .before)) (legs (
 kept-sums c b h = c .add-legs .ensures .1 b (omega (arith, is-legs (c .before .before)))
 
 -- what is left after a test
-leg-passed : (c : tie.Else1) → let s = S (c .before .before .before) in lowest mostPoints s (past 6) ≡ lowest mostPoints s (past 5)
-leg-passed c = passed (S (c .before .before .before)) Leg (past 6) (sym (asks-leg (c .before)) ∙ c .if1 .left)
+leg-passed : (c : tie.Else1) → let s = S (c .before .before .before) in lowest mostPoints s (past 7) ≡ lowest mostPoints s (past 6)
+leg-passed c = passed mostPoints (S (c .before .before .before)) Leg (past 7) (sym (asks-leg (c .before)) ∙ c .if1 .left)
 
-reach-passed : (c : tie.Else2) → let s = S (c .before .before .before .before .before) in lowest mostPoints s (past 7) ≡ lowest mostPoints s (past 5)
+reach-passed : (c : tie.Else2) → let s = S (c .before .before .before .before .before) in lowest mostPoints s (past 8) ≡ lowest mostPoints s (past 6)
 reach-passed c =
-    passed (S (c .before .before .before .before .before)) Reach (past 7) (sym (asks-reach (c .before)) ∙ c .if2 .left) ∙ leg-passed (c .before .before)
+    passed mostPoints (S (c .before .before .before .before .before)) Reach (past 8) (sym (asks-reach (c .before)) ∙ c .if2 .left) ∙ leg-passed (c .before .before)
 
 leg-count-requires : tie.Need-leg-count-requires
 leg-count-requires c κs = search needs
@@ -65,7 +65,7 @@ add-legs-requires : tie.Need-add-legs-requires
 add-legs-requires c κs = (omega (arith, c .before .leg-count .ensures), omega (arith, few (c .before)), c .before .before .before .pre .5)
 
 returns : tie.Need-returns
-returns c = (stopped (S (c .before .before .before)) Leg (past 6) (sym (asks-leg (c .before)) ∙ c .if1 .taken), kept-sums (c .before))
+returns c = (stopped mostPoints (S (c .before .before .before)) Leg (past 7) (sym (asks-leg (c .before)) ∙ c .if1 .taken), kept-sums (c .before))
 
 mul-from : tie.Need-mul-from
 mul-from c = search needs
@@ -81,7 +81,7 @@ waypoints-outside-requires c κs =
 returns-2 : tie.Need-returns-2
 returns-2 c =
     let a = c .before .before .before in
-    (stopped (S (a .before .before)) Reach (past 7) (sym (asks-reach (c .before)) ∙ c .if2 .taken) ∙ leg-passed (c .before .before), kept-sums a)
+    (stopped mostPoints (S (a .before .before)) Reach (past 8) (sym (asks-reach (c .before)) ∙ c .if2 .taken) ∙ leg-passed (c .before .before), kept-sums a)
 
 mul-slopes-outside : tie.Need-mul-slopes-outside
 mul-slopes-outside c = search needs
@@ -97,7 +97,7 @@ slopes-outside-requires c κs =
 returns-3 : tie.Need-returns-3
 returns-3 c =
     let a = c .before .before .before .before .before in
-    (stopped (S (a .before .before)) Slope (past 8) (sym (asks-slope (c .before)) ∙ c .if3 .taken) ∙ reach-passed (c .before .before), kept-sums a)
+    (stopped mostPoints (S (a .before .before)) Slope (past 9) (sym (asks-slope (c .before)) ∙ c .if3 .taken) ∙ reach-passed (c .before .before), kept-sums a)
 
 cast-t17 : tie.Need-cast-t17
 cast-t17 c = search needs
@@ -107,7 +107,7 @@ returns-4 c =
     let e = c .before in
     let a = e .before .before .before .before .before in let p = a .before .before in let s = S p in let pre = p .before .before .pre in
     let total : a .add-legs .result .ticks ≡ ticks s = a .add-legs .ensures .0 .0 ∙ ap (sumBelow (leg s)) (is-legs p) in (
-      (λ i. Course (pre .0 i) (pre .1 i) (total i)) ∙ passed s Slope (past 8) (sym (asks-slope (e .before)) ∙ e .if3 .left) ∙ reach-passed (e .before .before),
+      (λ i. Course (pre .0 i) (pre .1 i) (total i)) ∙ passed mostPoints s Slope (past 9) (sym (asks-slope (e .before)) ∙ e .if3 .left) ∙ reach-passed (e .before .before),
       kept-sums a,
     )
 

@@ -16,9 +16,12 @@ use Rattle.sheet.proofs.reader.read_with_sums.Tie as tie
 abbrev S : tie.Start → List ℕ
 S c = c .args .s .now
 
+abbrev L : tie.Start → ℕ
+L c = c .args .limit
+
 returns : tie.Need-returns
 unfolding readBy
-returns c = let s = S (c .before .before) in (ap told (stopped s Torn (past 1) (simp (lt-ltb (length s) 8 (c .if1 .taken)))), tt)
+returns c = let b = c .before .before in let s = S b in (ap told (stopped (L b) s Torn (past 1) (simp (lt-ltb (length s) 8 (c .if1 .taken)))), tt)
 
 read32-requires : tie.Need-read32-requires
 read32-requires c κs = search needs
@@ -34,8 +37,8 @@ is-length c = c .read32 .ensures .0
 returns-2 : tie.Need-returns-2
 unfolding readBy
 returns-2 c =
-    let s = S (c .before .before .before .before) in (
-      ap told (stopped s Torn (past 1) (simp (
+    let b = c .before .before .before .before in let s = S b in (
+      ap told (stopped (L b) s Torn (past 1) (simp (
         le-ltb (length s) 8 (c .before .before .if1 .left),
         ne-eqb (be32 s 0) (length s) (λ e. c .if2 .taken (is-length (c .before) ∙ e)),
       ))),
@@ -48,8 +51,8 @@ read-fields-requires c κs = search needs
 returns-3 : tie.Need-returns-3
 unfolding readBy
 returns-3 c =
-    let p = c .before .before in let s = S (p .before .before .before .before) in (
-      ap told (c .read-fields .ensures .0 ∙ passed s Torn (past 1) (simp (
+    let p = c .before .before in let b = p .before .before .before .before in let s = S b in (
+      ap told (c .read-fields .ensures .0 ∙ passed (L b) s Torn (past 1) (simp (
         le-ltb (length s) 8 (p .before .before .if1 .left),
         eq-eqb (be32 s 0) (length s) (sym (is-length (p .before)) ∙ p .if2 .left),
       ))),

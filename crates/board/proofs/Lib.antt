@@ -1,0 +1,3 @@
+-- The worked sheets, then the theorems.
+pub mod Worked
+pub mod Theorems

@@ -1,0 +1,2 @@
+-- What the functions over slices leave behind.
+pub mod Written

@@ -1,2 +1,0 @@
--- What the exported functions leave behind.
-pub mod Written
