@@ -1,14 +1,15 @@
 /* The route station's curve for C99 and later, and C++11 and later: the functions of the proved library libstation.a.
  * `tools/archive` makes the library, `tools/install PREFIX` installs both; examples/fly.c flies a course with them,
- * examples/fleet.c flies several drones on it, examples/join.c joins two courses, examples/strokes.c draws one by straight strokes. N6, A4
- * and the like are clauses of docs/REQUIREMENTS.md.
+ * examples/fleet.c flies several drones on it, examples/join.c joins two courses, examples/strokes.c draws one by straight strokes. board.h
+ * has the autopilot board's functions, which are in the library as well. N6, A4 and the like are clauses of docs/REQUIREMENTS.md.
  *
  * Units: ten ticks are a second; north, east and up are millimetres seen from the home post, in whole numbers. N, L and P stand for the
  * counts of waypoints, of legs, and of ticks on all legs together.
  *
  * Answers (A1, A9): STATION_DONE, or the least number of the refusals that this call looks for and finds; joining, the round and strokes
- * have orders of their own (A13 to A15). A refused call leaves all that it was lent as it was, but for the next turn, which goes with the
- * refusal of a seat (Q3). There is no state behind the calls, no heap, no global variable and no errno; threads may call at the same time.
+ * have orders of their own (A13 to A15), and so has the board (A16). A refused call leaves all that it was lent as it was, but for the next
+ * turn, which goes with the refusal of a seat (Q3). There is no state behind the calls, no heap, no global variable and no errno; threads
+ * may call at the same time.
  *
  * A slice is a pointer, followed by how many elements there are. Any bytes and numbers may stand in it (D1). The caller owes that
  *   - its pointer is never null, even for no elements, is aligned as its type wants, and reaches over all the elements;
@@ -19,7 +20,8 @@
  * Results fill out (of a round place and next) from its start, and nothing after them is touched. An out that is too short stays as it was
  * although the answer is the same: the functions over structs, further down, cannot be called with a short out.
  *
- * The archive, as `tools/measure` prints it (`tools/measure --write` renews these lines):
+ * The archive's member with these functions, exports.o, as `tools/measure` prints it (`tools/measure --write` renews these lines). The
+ * board's have a member of their own, board.o, which a program that calls none of them does not link:
  * [measured]
  *   format:           elf64-x86-64, for Linux (System V calls)
  *   outside symbols:  memset
@@ -40,11 +42,12 @@
  * is found (P7).
  *
  * From 1.x to 2.0: a runner is three numbers, the third its laps flown, in every record, in a fleet and as arguments; a runner of two
- * numbers becomes one with 0 laps. A back at a closed course's first waypoint takes a lap off, and without one it is refused with 15. */
+ * numbers becomes one with 0 laps. A back at a closed course's first waypoint takes a lap off, and without one it is refused with 15.
+ * 2.1 adds board.h and the number 23, which no function of this header answers. */
 #define STATION_VERSION_MAJOR 2
-#define STATION_VERSION_MINOR 0
+#define STATION_VERSION_MINOR 1
 #define STATION_VERSION_PATCH 0
-#define STATION_VERSION "2.0.0"
+#define STATION_VERSION "2.1.0"
 
 /* Asks gcc and clang to warn where an answer is dropped or a null pointer is handed over; nothing to other compilers. */
 #if defined(__GNUC__)
@@ -81,7 +84,8 @@ enum {
     STATION_SEATS = 19,   /* N19: the fleet has no seats, or over 32 */
     STATION_TURN = 20,    /* N20: the turn is not below the number of seats */
     STATION_GRAIN = 21,   /* N21: a tolerance below 0 or over 1,000 mm */
-    STATION_INK = 22      /* N22: the list for the ends of strokes is shorter than the answer */
+    STATION_INK = 22,     /* N22: the list for the ends of strokes is shorter than the answer */
+    STATION_BOARD = 23    /* N23: over 48 waypoints, the most that the board reads; no function of this header tests it */
 };
 
 /* The kinds of ends (S4). */
@@ -198,11 +202,10 @@ struct station_lists {
     size_t slopes_length;     /* held: 6, else 0 */
 };
 
-/* station_read, into a struct. */
-STATION_CHECKED static inline uint64_t station_read_into(const uint8_t *sheet, size_t sheet_length, struct station_course *course)
+/* What a call left in out goes into a struct where it was done; then its answer. For the functions over structs, here and in board.h. */
+
+STATION_CHECKED static inline uint64_t station_told_course(uint64_t answer, const uint64_t *out, struct station_course *course)
 {
-    uint64_t out[3] = {0, 0, 0};
-    uint64_t answer = station_read(sheet, sheet_length, out, 3);
     if (answer == STATION_DONE) {
         course->kind = out[0];
         course->waypoints = out[1];
@@ -211,18 +214,41 @@ STATION_CHECKED static inline uint64_t station_read_into(const uint8_t *sheet, s
     return answer;
 }
 
-/* station_place_at_tick, into a struct. */
-STATION_CHECKED static inline uint64_t station_place_at_tick_into(const uint8_t *sheet, size_t sheet_length, const int64_t *list,
-                                                                  size_t list_length, uint64_t tick, struct station_place *place)
+STATION_CHECKED static inline uint64_t station_told_place(uint64_t answer, const int64_t *out, struct station_place *place)
 {
-    int64_t out[3] = {0, 0, 0};
-    uint64_t answer = station_place_at_tick(sheet, sheet_length, list, list_length, tick, out, 3);
     if (answer == STATION_DONE) {
         place->north = out[0];
         place->east = out[1];
         place->up = out[2];
     }
     return answer;
+}
+
+STATION_CHECKED static inline uint64_t station_told_runner(uint64_t answer, const uint64_t *out, struct station_runner *runner)
+{
+    if (answer == STATION_DONE) {
+        runner->leg = out[0];
+        runner->offset = out[1];
+        runner->laps = out[2];
+    }
+    return answer;
+}
+
+/* station_read, into a struct. */
+STATION_CHECKED static inline uint64_t station_read_into(const uint8_t *sheet, size_t sheet_length, struct station_course *course)
+{
+    uint64_t out[3] = {0, 0, 0};
+    uint64_t answer = station_read(sheet, sheet_length, out, 3);
+    return station_told_course(answer, out, course);
+}
+
+/* station_place_at_tick, into a struct. */
+STATION_CHECKED static inline uint64_t station_place_at_tick_into(const uint8_t *sheet, size_t sheet_length, const int64_t *list,
+                                                                  size_t list_length, uint64_t tick, struct station_place *place)
+{
+    int64_t out[3] = {0, 0, 0};
+    uint64_t answer = station_place_at_tick(sheet, sheet_length, list, list_length, tick, out, 3);
+    return station_told_place(answer, out, place);
 }
 
 /* station_place_of_runner, from a struct and into one. */
@@ -232,12 +258,7 @@ STATION_CHECKED static inline uint64_t station_place_of_runner_into(const uint8_
 {
     int64_t out[3] = {0, 0, 0};
     uint64_t answer = station_place_of_runner(sheet, sheet_length, list, list_length, runner.leg, runner.offset, runner.laps, out, 3);
-    if (answer == STATION_DONE) {
-        place->north = out[0];
-        place->east = out[1];
-        place->up = out[2];
-    }
-    return answer;
+    return station_told_place(answer, out, place);
 }
 
 /* station_runner_at_tick, into a struct. */
@@ -246,12 +267,7 @@ STATION_CHECKED static inline uint64_t station_runner_at_tick_into(const uint8_t
 {
     uint64_t out[3] = {0, 0, 0};
     uint64_t answer = station_runner_at_tick(sheet, sheet_length, tick, out, 3);
-    if (answer == STATION_DONE) {
-        runner->leg = out[0];
-        runner->offset = out[1];
-        runner->laps = out[2];
-    }
-    return answer;
+    return station_told_runner(answer, out, runner);
 }
 
 /* station_step, on a struct. */
@@ -259,12 +275,7 @@ STATION_CHECKED static inline uint64_t station_step_runner(const uint8_t *sheet,
 {
     uint64_t record[3] = {runner->leg, runner->offset, runner->laps};
     uint64_t answer = station_step(sheet, sheet_length, record, 3);
-    if (answer == STATION_DONE) {
-        runner->leg = record[0];
-        runner->offset = record[1];
-        runner->laps = record[2];
-    }
-    return answer;
+    return station_told_runner(answer, record, runner);
 }
 
 /* station_back, on a struct. */
@@ -272,12 +283,7 @@ STATION_CHECKED static inline uint64_t station_back_runner(const uint8_t *sheet,
 {
     uint64_t record[3] = {runner->leg, runner->offset, runner->laps};
     uint64_t answer = station_back(sheet, sheet_length, record, 3);
-    if (answer == STATION_DONE) {
-        runner->leg = record[0];
-        runner->offset = record[1];
-        runner->laps = record[2];
-    }
-    return answer;
+    return station_told_runner(answer, record, runner);
 }
 
 /* station_write, from a struct. The sheet's length goes into *length where it is not refused. */
@@ -319,12 +325,7 @@ STATION_CHECKED static inline uint64_t station_round_fleet(const uint8_t *sheet,
     uint64_t next[1] = {*turn};
     uint64_t answer = station_round(sheet, sheet_length, list, list_length, &fleet->leg, 3 * seats, *turn, out, 3, next, 1);
     *turn = next[0];
-    if (answer == STATION_DONE) {
-        place->north = out[0];
-        place->east = out[1];
-        place->up = out[2];
-    }
-    return answer;
+    return station_told_place(answer, out, place);
 }
 
 /* station_strokes. How many ends there are goes into *count where it is not refused. */
@@ -389,6 +390,8 @@ static inline const char *station_word(uint64_t answer)
         return "grain";
     case STATION_INK:
         return "ink";
+    case STATION_BOARD:
+        return "board";
     default:
         return "unknown";
     }

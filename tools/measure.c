@@ -1,16 +1,25 @@
-/* How deep the stack is that each call of the library needs: compiled with it and run by tools/measure.
+/* How deep the stack is that each call of the library needs: compiled with it and run by tools/measure, for the station's library, and with
+ * BOARD for the board's.
  *
  * A call is made on a stack of its own that was painted first; the lowest byte that lost its paint is how deep the call went. The same call
  * site is tried with a function that does nothing: the difference, and the return address, is the library's. Two paints are used, since a
  * byte may be written with the paint's own value. */
-#include "station.h"
+#include "board.h"
 
 #include <stdio.h>
 #include <stdlib.h>
 #include <string.h>
 #include <ucontext.h>
 
-enum { STACK = 1 << 18, CALLS = 11, JOIN = 8, ROUND = 9, STROKES = 10, ADDRESS = 8 };
+/* How many calls there are, of which the first six are also the board's, and the most waypoints that they read. */
+#ifdef BOARD
+#define LIBRARY(call) board_##call
+enum { CALLS = 6, MOST_POINTS = BOARD_MOST_POINTS };
+#else
+#define LIBRARY(call) station_##call
+enum { CALLS = 11, MOST_POINTS = 512 };
+#endif
+enum { STACK = 1 << 18, JOIN = 8, ROUND = 9, STROKES = 10, ADDRESS = 8 };
 
 /* What is lent to a call: a sheet, the one that is joined to it, the lists it is made from, room for one more; a fleet; a tolerance, and a
  * list for the ends of strokes. */
@@ -26,11 +35,11 @@ static int64_t place[3], tolerance;
 static uint64_t ends[STATION_MOST_STROKE_ENDS];
 static size_t ends_length;
 
-static const char *const names[CALLS] = {"read", "lay_out", "place_at_tick", "place_of_runner", "runner_at_tick",
-                                         "step", "back",    "write",         "join",            "round",          "strokes"};
+static const char *const names[] = {"read", "lay_out", "place_at_tick", "place_of_runner", "runner_at_tick",
+                                    "step", "back",    "write",         "join",            "round",          "strokes"};
 static uint64_t deepest[CALLS];
 
-/* The eleven calls, or functions of the same types that do nothing. */
+/* The library's calls, or functions of the same types that do nothing; of the board only the first six are set. */
 struct calls {
     uint64_t (*read)(const uint8_t *, size_t, uint64_t *, size_t);
     uint64_t (*lay_out)(const uint8_t *, size_t, int64_t *, size_t);
@@ -47,9 +56,21 @@ struct calls {
     uint64_t (*strokes)(const uint8_t *, size_t, const int64_t *, size_t, int64_t, uint64_t *, size_t, uint64_t *, size_t);
 };
 
-static const struct calls library = {station_read, station_lay_out, station_place_at_tick, station_place_of_runner, station_runner_at_tick,
-                                     station_step, station_back,    station_write,         station_join,            station_round,
-                                     station_strokes};
+static const struct calls library = {
+    .read = LIBRARY(read),
+    .lay_out = LIBRARY(lay_out),
+    .place_at_tick = LIBRARY(place_at_tick),
+    .place_of_runner = LIBRARY(place_of_runner),
+    .runner_at_tick = LIBRARY(runner_at_tick),
+    .step = LIBRARY(step),
+#ifndef BOARD
+    .back = station_back,
+    .write = station_write,
+    .join = station_join,
+    .round = station_round,
+    .strokes = station_strokes,
+#endif
+};
 
 static uint64_t no_read(const uint8_t *s, size_t n, uint64_t *out, size_t m)
 {
@@ -171,11 +192,14 @@ static size_t untouched(const struct calls *which, uint8_t paint)
     return left;
 }
 
-/* Makes one call on what is in place, at a tick and of a runner, and keeps its deepest; the answer has to be `wanted`. */
+/* Makes one call, if there is such a one, on what is in place, at a tick and of a runner, and keeps its deepest; the answer has to be
+ * `wanted`. */
 static void measure_call(int i, uint64_t at, struct station_runner runner, uint64_t wanted)
 {
     static const uint8_t paints[] = {0xa5, 0x5a};
     uint64_t *seat = fleet + 3 * (STATION_MOST_SEATS - 1);
+    if (i >= CALLS)
+        return;
     for (size_t p = 0; p < sizeof paints; p++) {
         call = i;
         tick = at;
@@ -185,7 +209,7 @@ static void measure_call(int i, uint64_t at, struct station_runner runner, uint6
         size_t empty = untouched(&nothing, paints[p]);
         size_t full = untouched(&library, paints[p]);
         if (answer != wanted || full == 0 || full > empty) {
-            fprintf(stderr, "measure: station_%s answers %llu, not %llu\n", names[i], (unsigned long long)answer,
+            fprintf(stderr, "measure: %s answers %llu, not %llu\n", names[i], (unsigned long long)answer,
                     (unsigned long long)wanted);
             exit(1);
         }
@@ -286,7 +310,7 @@ static void measure_join(size_t n, uint64_t kind, size_t m, uint64_t wanted)
 int main(void)
 {
     for (uint64_t kind = STATION_FREE; kind <= STATION_CLOSED; kind++) {
-        uint64_t ticks = make_lists(kind, 512);
+        uint64_t ticks = make_lists(kind, MOST_POINTS);
         make_sheet();
         for (uint64_t at = 0; at <= ticks; at += ticks / 4)
             measure(at, second_tick, STATION_DONE);
@@ -305,6 +329,11 @@ int main(void)
         make_sheet();
         measure(1, second_tick, STATION_LEG);
         measure_strokes(0, STATION_LEG);
+#ifdef BOARD
+        make_lists(kind, MOST_POINTS + 1);
+        make_sheet();
+        measure(1, second_tick, STATION_BOARD);
+#endif
     }
     measure_join(257, STATION_FREE, 256, STATION_DONE);
     measure_join(3, STATION_FREE, 2, STATION_DONE);

@@ -4,7 +4,8 @@
 //! A *sheet* is a course as bytes. [`read`] tells what it holds, [`lay_out`] makes the bend numbers that the places need, and then
 //! [`place_at_tick`] tells where the course is at each tick. A [`Runner`] does the same for a drone that moves on, or back, tick by tick,
 //! and keeps count of its laps, a [`Fleet`] for several of them in turn. [`strokes`] cuts the course into straight lines to be drawn.
-//! [`write()`] makes a sheet from lists of numbers, [`join`] one of two. Ten ticks are a second, and lengths are whole millimetres.
+//! [`write()`] makes a sheet from lists of numbers, [`join`] one of two. [`board`] has what the autopilot board says of a sheet. Ten ticks
+//! are a second, and lengths are whole millimetres.
 //!
 //! Every function takes any bytes, lists and numbers (D1). What does not fit is answered with a [`Refusal`], and then nothing that was
 //! lent has changed (A9); a fleet whose seat is refused passes its turn on (Q3).
@@ -26,12 +27,13 @@
 //!
 //! `build.rs` links `libstation.a` from the folder that the variable `STATION_LIBRARY_DIR` names, or from `target/staticlib` of the
 //! repository that this crate is part of, where `tools/archive` makes it. The archive is for x86-64. Without the default feature `link`
-//! nothing is linked: the program then brings the eleven functions of [`raw`] itself.
+//! nothing is linked: the program then brings the functions of [`raw`] itself, the station's eleven and the board's six.
 
 #![no_std]
 #![deny(missing_docs)]
 #![deny(unsafe_code)]
 
+pub mod board;
 mod fleet;
 #[allow(unsafe_code)]
 pub mod raw;
@@ -83,6 +85,17 @@ pub struct Course {
 }
 
 impl Course {
+    /// From kind, N and P of a sheet that was read: its kind is 0, 1 or 2 (N3).
+    #[inline]
+    fn of([kind, waypoints, ticks]: [u64; 3]) -> Course {
+        let kind = match kind {
+            0 => EndKind::Free,
+            1 => EndKind::Held,
+            _ => EndKind::Closed,
+        };
+        Course { kind, waypoints: waypoints as usize, ticks }
+    }
+
     /// How many bend numbers its list has: three for each waypoint.
     pub const fn list_length(&self) -> usize {
         3 * self.waypoints
@@ -136,15 +149,7 @@ impl From<Place> for [i64; 3] {
 /// ```
 #[inline]
 pub fn read(sheet: &[u8]) -> Result<Course, Refusal> {
-    let mut out = [0; 3];
-    done(raw::read(sheet, &mut out))?;
-    // an accepted sheet's kind is 0, 1 or 2 (N3)
-    let kind = match out[0] {
-        0 => EndKind::Free,
-        1 => EndKind::Held,
-        _ => EndKind::Closed,
-    };
-    Ok(Course { kind, waypoints: out[1] as usize, ticks: out[2] })
+    raw::STATION.read(sheet).map(Course::of)
 }
 
 /// Lays out the sheet's bend numbers in a list: north's, then east's, then up's; what the list has beyond them stays (L5).
@@ -181,7 +186,7 @@ pub fn read(sheet: &[u8]) -> Result<Course, Refusal> {
 /// ```
 #[inline]
 pub fn lay_out(sheet: &[u8], list: &mut [i64]) -> Result<(), Refusal> {
-    done(raw::lay_out(sheet, list))
+    raw::STATION.lay_out(sheet, list)
 }
 
 /// The place at a tick, by a list that was laid out for this sheet; a closed course has a place at any tick (P4). Tests 1-10 and 12 (A4).
@@ -199,9 +204,7 @@ pub fn lay_out(sheet: &[u8], list: &mut [i64]) -> Result<(), Refusal> {
 /// ```
 #[inline]
 pub fn place_at_tick(sheet: &[u8], list: &[i64], tick: u64) -> Result<Place, Refusal> {
-    let mut out = [0; 3];
-    done(raw::place_at_tick(sheet, list, tick, &mut out))?;
-    Ok(out.into())
+    raw::STATION.place_at_tick(sheet, list, tick).map(Place::from)
 }
 
 /// Writes a sheet at the front of the slice `sheet`, whose bytes behind it stay, from lists in the sheet's order (G1): the legs; north,

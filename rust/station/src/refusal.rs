@@ -3,7 +3,7 @@
 use core::fmt;
 
 /// Why a call was refused. Of the refusals that a call looks for, the one with the least number is answered (A1); joining, the round and
-/// strokes have orders of their own (A13 to A15).
+/// strokes have orders of their own (A13 to A15), and so has the board (A16).
 ///
 /// ```
 /// use station::Refusal;
@@ -60,6 +60,8 @@ pub enum Refusal {
     Grain,
     /// N22: the list for the ends of strokes is shorter than the answer.
     Ink,
+    /// N23: over 48 waypoints, the most that the board reads; only the functions of [`board`](crate::board) test it.
+    Board,
     /// A number that this crate does not know, from a library newer than it. The library of this version has no such answer.
     Unknown(u64),
 }
@@ -100,6 +102,7 @@ impl Refusal {
             20 => Refusal::Turn,
             21 => Refusal::Grain,
             22 => Refusal::Ink,
+            23 => Refusal::Board,
             _ => Refusal::Unknown(number),
         })
     }
@@ -139,6 +142,7 @@ impl Refusal {
             Refusal::Turn => (20, "turn"),
             Refusal::Grain => (21, "grain"),
             Refusal::Ink => (22, "ink"),
+            Refusal::Board => (23, "board"),
             Refusal::Unknown(number) => (number, "unknown"),
         }
     }

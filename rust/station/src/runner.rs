@@ -1,6 +1,6 @@
 //! A drone on a course: where it stands, how often it has been round, and its ticks on and back (group M).
 
-use crate::{Place, Refusal, done, raw};
+use crate::{Place, Refusal, raw};
 
 /// Where a drone stands on a course, and how often it has been round (M1). The default is the first waypoint with no lap flown.
 ///
@@ -75,9 +75,7 @@ impl From<Runner> for [u64; 3] {
 /// ```
 #[inline]
 pub fn place_of_runner(sheet: &[u8], list: &[i64], runner: Runner) -> Result<Place, Refusal> {
-    let mut out = [0; 3];
-    done(raw::place_of_runner(sheet, list, runner, &mut out))?;
-    Ok(out.into())
+    raw::STATION.place_of_runner(sheet, list, runner).map(Place::from)
 }
 
 /// The runner that stands at a tick, on a closed course with as many laps as the tick has been round, on an open one with none (M10). Tests
@@ -116,9 +114,7 @@ pub fn place_of_runner(sheet: &[u8], list: &[i64], runner: Runner) -> Result<Pla
 /// ```
 #[inline]
 pub fn runner_at_tick(sheet: &[u8], tick: u64) -> Result<Runner, Refusal> {
-    let mut out = [0; 3];
-    done(raw::runner_at_tick(sheet, tick, &mut out))?;
-    Ok(out.into())
+    raw::STATION.runner_at_tick(sheet, tick).map(Runner::from)
 }
 
 /// Moves a runner on by a tick (M2). A step to the first waypoint of a closed course adds a lap; `u64::MAX` laps stay as many (M10).
@@ -138,10 +134,7 @@ pub fn runner_at_tick(sheet: &[u8], tick: u64) -> Result<Runner, Refusal> {
 /// ```
 #[inline]
 pub fn step(sheet: &[u8], runner: &mut Runner) -> Result<(), Refusal> {
-    let mut record: [u64; 3] = (*runner).into();
-    done(raw::step(sheet, &mut record))?;
-    *runner = record.into();
-    Ok(())
+    raw::STATION.step(sheet, runner)
 }
 
 /// Moves a runner back by a tick (M6), from the first waypoint of a closed course by taking a lap off; so that it undoes a step, and a step
@@ -161,8 +154,5 @@ pub fn step(sheet: &[u8], runner: &mut Runner) -> Result<(), Refusal> {
 /// ```
 #[inline]
 pub fn back(sheet: &[u8], runner: &mut Runner) -> Result<(), Refusal> {
-    let mut record: [u64; 3] = (*runner).into();
-    done(raw::back(sheet, &mut record))?;
-    *runner = record.into();
-    Ok(())
+    raw::back(sheet, runner)
 }

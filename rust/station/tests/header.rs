@@ -1,12 +1,14 @@
-//! The crate says what include/station.h says: version, sizes, the kinds of ends, each refusal's number and word.
+//! The crate says what include/station.h and include/board.h say: version, sizes, the kinds of ends, each refusal's number and word.
 
-use station::{EndKind, LONGEST_LIST, LONGEST_SHEET, MOST_SEATS, MOST_STROKE_ENDS, MOST_TOLERANCE, Refusal};
+use station::{EndKind, LONGEST_LIST, LONGEST_SHEET, MOST_SEATS, MOST_STROKE_ENDS, MOST_TOLERANCE, Refusal, board};
 
 const HEADER: &str = include_str!("../../../include/station.h");
+const BOARD_HEADER: &str = include_str!("../../../include/board.h");
 
-/// The value of an enumerator or a macro of the header.
+/// The value of an enumerator or a macro of a header: of the board's where it begins so.
 fn value(name: &str) -> &'static str {
-    let mut found = HEADER.split(name).skip(1).filter_map(|rest| {
+    let header = if name.starts_with("BOARD_") { BOARD_HEADER } else { HEADER };
+    let mut found = header.split(name).skip(1).filter_map(|rest| {
         let rest = rest.strip_prefix(" = ").or_else(|| rest.strip_prefix(' '))?;
         rest.split([',', ' ', '\n']).next().filter(|text| text.starts_with(|first: char| first.is_ascii_digit() || first == '"'))
     });
@@ -27,6 +29,9 @@ fn sizes() {
     assert_eq!(value("STATION_MOST_SEATS"), MOST_SEATS.to_string());
     assert_eq!(value("STATION_MOST_STROKE_ENDS"), MOST_STROKE_ENDS.to_string());
     assert_eq!(value("STATION_MOST_TOLERANCE"), MOST_TOLERANCE.to_string());
+    assert_eq!(value("BOARD_MOST_POINTS"), board::MOST_POINTS.to_string());
+    assert_eq!(value("BOARD_LONGEST_SHEET"), board::LONGEST_SHEET.to_string());
+    assert_eq!(value("BOARD_LONGEST_LIST"), board::LONGEST_LIST.to_string());
 }
 
 #[test]
