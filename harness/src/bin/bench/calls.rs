@@ -1,8 +1,8 @@
 //! The calls that the benchmark times, each as work on the sheets of a form.
 
 use crate::forms::Form;
-use harness::boundary::Calls;
-use harness::model::{self, Lists, Runner};
+use harness::boundary::{Calls, Six};
+use harness::model::{self, Lists, Reader, Runner};
 use std::hint::black_box;
 
 /// Something to time; it does its work once for the k-th sheet.
@@ -67,28 +67,34 @@ pub enum Call {
 }
 
 impl Call {
+    /// Whether the board has it too (B1).
+    pub fn is_of_board(self) -> bool {
+        matches!(self, Call::Read | Call::LayOut | Call::PlaceAt(_) | Call::PlaceOfRunner | Call::RunnerAt(_) | Call::Step(_))
+    }
+
     pub fn work<'a>(self, calls: &'a Calls, form: &'a Form) -> Work<'a> {
+        let six = form.six(calls);
         let sheet = |k: usize| (form.sheets[k].as_ptr(), form.sheets[k].len());
         let (mut numbers, mut room) = ([0_u64; 3], vec![0_i64; 3 * form.n]);
         // SAFETY (all calls): pointers and lengths of live slices that do not overlap.
         match self {
             Call::Read => Box::new(move |k| {
                 let (s, n) = sheet(k);
-                black_box(unsafe { (calls.read)(s, n, numbers.as_mut_ptr(), 3) });
+                black_box(unsafe { (six.read)(s, n, numbers.as_mut_ptr(), 3) });
             }),
             Call::LayOut => Box::new(move |k| {
                 let (s, n) = sheet(k);
-                black_box(unsafe { (calls.lay_out)(s, n, room.as_mut_ptr(), room.len()) });
+                black_box(unsafe { (six.lay_out)(s, n, room.as_mut_ptr(), room.len()) });
             }),
             Call::RunnerAt(at) => {
                 let ticks = ticks(form, at);
                 Box::new(move |k| {
                     let (s, n) = sheet(k);
-                    black_box(unsafe { (calls.runner_at_tick)(s, n, ticks[k], numbers.as_mut_ptr(), 3) });
+                    black_box(unsafe { (six.runner_at_tick)(s, n, ticks[k], numbers.as_mut_ptr(), 3) });
                 })
             }
             Call::Step(at) | Call::Back(at) => {
-                let call = if matches!(self, Call::Step(_)) { calls.step } else { calls.back };
+                let call = if matches!(self, Call::Step(_)) { six.step } else { calls.back };
                 let runners = runners(form, at);
                 Box::new(move |k| {
                     let (s, n) = sheet(k);
@@ -96,7 +102,7 @@ impl Call {
                     black_box(unsafe { call(s, n, runner.as_mut_ptr(), 3) });
                 })
             }
-            Call::PlaceAt(_) | Call::PlaceOfRunner => self.placing(calls, form),
+            Call::PlaceAt(_) | Call::PlaceOfRunner => self.placing(six, form),
             Call::Write | Call::Join => self.making(calls, form),
             Call::Round(seats) => rounds(calls, form, seats),
             Call::Strokes { tolerance, counted } => strokes(calls, form, tolerance, counted),
@@ -104,7 +110,7 @@ impl Call {
     }
 
     /// The calls that answer a place.
-    fn placing<'a>(self, calls: &'a Calls, form: &'a Form) -> Work<'a> {
+    fn placing<'a>(self, six: &'a Six, form: &'a Form) -> Work<'a> {
         let sheet = |k: usize| (form.sheets[k].as_ptr(), form.sheets[k].len());
         let list = |k: usize| (form.lists[k].as_ptr(), form.lists[k].len());
         let mut place = [0_i64; 3];
@@ -113,13 +119,13 @@ impl Call {
             let ticks = ticks(form, at);
             return Box::new(move |k| {
                 let ((s, n), (l, m)) = (sheet(k), list(k));
-                black_box(unsafe { (calls.place_at_tick)(s, n, l, m, ticks[k], place.as_mut_ptr(), 3) });
+                black_box(unsafe { (six.place_at_tick)(s, n, l, m, ticks[k], place.as_mut_ptr(), 3) });
             });
         }
         Box::new(move |k| {
             let ((s, n), (l, m)) = (sheet(k), list(k));
             let [leg, offset, laps] = form.runners[k];
-            black_box(unsafe { (calls.place_of_runner)(s, n, l, m, leg, offset, laps, place.as_mut_ptr(), 3) });
+            black_box(unsafe { (six.place_of_runner)(s, n, l, m, leg, offset, laps, place.as_mut_ptr(), 3) });
         })
     }
 
@@ -179,6 +185,6 @@ fn ticks(form: &Form, at: At) -> Vec<u64> {
 
 /// The runner at the tick on each sheet.
 fn runners(form: &Form, at: At) -> Vec<Runner> {
-    let runner = |(k, sheet): (usize, &Vec<u8>)| model::runner_at_tick(sheet, at.tick(form, k)).expect("a tick of the course");
+    let runner = |(k, sheet): (usize, &Vec<u8>)| Reader::STATION.runner_at_tick(sheet, at.tick(form, k)).expect("a tick of the course");
     form.sheets.iter().enumerate().map(runner).collect()
 }

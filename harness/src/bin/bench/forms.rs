@@ -1,6 +1,7 @@
 //! The sheets that the benchmark's calls are timed on, eight of each form but the longest, with all that the calls take besides.
 
-use harness::model::{self, Kind, Lists, Runner};
+use harness::boundary::{Calls, Six};
+use harness::model::{self, Kind, Lists, Reader, Runner};
 use harness::pairs;
 use harness::random::Random;
 use harness::sheets::{self, Draft, CLOSED, FREE};
@@ -9,6 +10,8 @@ use harness::sheets::{self, Draft, CLOSED, FREE};
 pub struct Form {
     pub name: String,
     pub n: usize,
+    /// Whether the board is asked, and not the station.
+    pub board: bool,
     pub sheets: Vec<Vec<u8>>,
     /// What the sheets are written from.
     pub sources: Vec<Lists>,
@@ -31,6 +34,7 @@ impl Form {
         let mut form = Form {
             name: format!("N = {n}, {name}"),
             n,
+            board: false,
             sheets: drafts.iter().map(Draft::bytes).collect(),
             sources: vec![],
             halves: drafts.iter().map(|draft| pairs::cut(draft, n / 2).map(|half| half.bytes())).collect(),
@@ -49,18 +53,27 @@ impl Form {
         form
     }
 
+    /// The calls of whom is asked.
+    pub fn six<'a>(&self, calls: &'a Calls) -> &'a Six {
+        if self.board {
+            &calls.board
+        } else {
+            &calls.station
+        }
+    }
+
     /// What belongs to the k-th sheet, by the model.
     fn fill(&mut self, k: usize) {
         let (sheet, n) = (&self.sheets[k], self.n);
-        let course = model::read(sheet).expect("an accepted sheet");
+        let course = Reader::STATION.read(sheet).expect("an accepted sheet");
         let mut list = vec![0; 3 * n];
-        model::lay_out(sheet, &mut list).expect("an accepted sheet");
+        Reader::STATION.lay_out(sheet, &mut list).expect("an accepted sheet");
         self.sources.push(course.lists());
         self.lists.push(list);
         let ticks = course.ticks() as u64;
         self.ticks.push(ticks);
         self.last.push(ticks - u64::from(course.kind == Kind::Closed));
-        self.runners.push(model::runner_at_tick(sheet, ticks / 2).expect("a tick of the course"));
+        self.runners.push(Reader::STATION.runner_at_tick(sheet, ticks / 2).expect("a tick of the course"));
         for axis in 0..3 {
             let rows = course.rows(axis);
             let mut z = vec![0; n];
@@ -81,24 +94,39 @@ fn spread(random: &mut Random, kind: u8, n: usize, leg: impl Fn(&mut Random) -> 
     draft
 }
 
+/// Eight sheets with legs alike or mixed on closed courses, on open ones with legs alike, or the slowest.
+fn eight(random: &mut Random, name: &str, n: usize) -> Form {
+    Form::new(name, n, 8, || match name {
+        "alike" => spread(random, CLOSED, n, |_| 10),
+        "mixed" => spread(random, CLOSED, n, |random| random.between(1, 256) as u16),
+        "open" => spread(random, FREE, n, |_| 10),
+        _ => sheets::chain(random, n, 60),
+    })
+}
+
 /// The sheets: open ones of N = 64 and 512 with legs alike; closed ones of N = 3; for laying out pairs of N = 64 and 512 with legs alike,
 /// with mixed ones, and the slowest; for strokes those of `longest`.
 pub fn forms(seed: u64) -> ([Form; 2], Form, Vec<[Form; 2]>, [Form; 2]) {
     let mut random = Random::new(seed);
-
-    let mut form = |name: &str, n: usize| {
-        Form::new(name, n, 8, || match name {
-            "alike" => spread(&mut random, CLOSED, n, |_| 10),
-            "mixed" => spread(&mut random, CLOSED, n, |random| random.between(1, 256) as u16),
-            "open" => spread(&mut random, FREE, n, |_| 10),
-            _ => sheets::chain(&mut random, n, 60),
-        })
-    };
+    let mut form = |name: &str, n: usize| eight(&mut random, name, n);
     let open = [form("open", 64), form("open", 512)];
     let three = form("mixed", 3);
     let laid = ["alike", "mixed", "worst"].map(|name| [form(name, 64), form(name, 512)]).into();
     let longest = longest(&mut random);
     (open, three, laid, longest)
+}
+
+/// The sheets for the board, whose largest N is 48: the same forms at N = 6 and 48 for 64 and 512, but for the slowest and the longest.
+pub fn board_forms(seed: u64) -> ([Form; 2], Form, Vec<[Form; 2]>) {
+    let mut random = Random::new(seed ^ 1);
+    let mut form = |name: &str, n: usize| {
+        let form = eight(&mut random, name, n);
+        Form { name: format!("board, {}", form.name), board: true, ..form }
+    };
+    let open = [form("open", 6), form("open", 48)];
+    let three = form("mixed", 3);
+    let laid = ["alike", "mixed"].map(|name| [form(name, 6), form(name, 48)]).into();
+    (open, three, laid)
 }
 
 /// Closed courses with legs of 256 ticks: two of N = 512, and sixteen of N = 64 through the same waypoints, since what a leg takes depends

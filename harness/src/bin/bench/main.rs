@@ -1,6 +1,7 @@
 //! The benchmark: the library's calls against plain C (c/base.c, gcc -O2) and C written with the same care (c/careful.c, gcc -O3), and
 //! laying out plus evaluation against 004's own programs in C (c/pcuspl.c, gcc -O2). The careful C rounds as the library does, by the
-//! remainder (F5), and in a second form by half the divisor, added first; calls that do not round are the same code in both.
+//! remainder (F5), and in a second form by half the divisor, added first; calls that do not round are the same code in both. The board's
+//! calls are timed against the same C with the board's limit, at its own largest N; there the second form is left out.
 //!
 //! Ratios are within one run: each comparison runs its candidates in turn, a short block of calls each, for many rounds, and takes each
 //! candidate's quickest blocks. There are eight different sheets of each form (of the longest, 1,024 legs), so that no candidate learns one by heart.
@@ -11,7 +12,7 @@ mod calls;
 mod forms;
 
 use calls::{At, Call, Work};
-use forms::{forms, Form};
+use forms::{board_forms, forms, Form};
 use harness::boundary::{BASE, CAREFUL, HALF_FIRST, LIBRARY};
 use harness::model::{MOST_SEATS, MOST_TOLERANCE};
 use harness::options::Given;
@@ -36,6 +37,13 @@ const PLACE_OVER_HALF_FIRST: Target = Target::Own(1.05);
 const LAY_OUT_OVER_HALF_FIRST: Target = Target::Own(1.1);
 const SMALL_OVER_BASE: Target = Target::Own(1.3);
 const GROWTH: Target = Target::Own(8.5);
+
+/// What growth is: the largest N of each reader over an eighth of it.
+const STATION_GROWTH: &str = "N = 512 over N = 64";
+const BOARD_GROWTH: &str = "board, N = 48 over 6";
+
+/// A call's name, the call, and the library's nanoseconds where it was timed.
+type Timed = (String, Call, Option<f64>);
 
 /// Targets that were looked at, and those of them that were missed.
 #[derive(Default)]
@@ -106,14 +114,14 @@ impl Bench {
         if !name.contains(&self.only) {
             return None;
         }
-        let over_half_first = over_half_first(call);
+        let over_half_first = over_half_first(call).filter(|_| !form.board);
         let candidates = [&LIBRARY, &BASE, &CAREFUL, &HALF_FIRST];
         let candidates = &candidates[..if over_half_first.is_some() { 4 } else { 3 }];
         let mut works: Vec<Work> = candidates.iter().map(|calls| call.work(calls, form)).collect();
         let times = self.times(&mut works, form.sheets.len());
-        let targets = match form.n {
-            512 => [Some(OVER_BASE), Some(OVER_CAREFUL), over_half_first],
-            3 => [Some(SMALL_OVER_BASE), None, None],
+        let targets = match (form.board, form.n) {
+            (false, 512) | (true, 48) => [Some(OVER_BASE), Some(OVER_CAREFUL), over_half_first],
+            (_, 3) => [Some(SMALL_OVER_BASE), None, None],
             _ => [None; 3],
         };
         let ratios: Vec<String> = times[1..].iter().zip(targets).map(|(time, target)| self.ratio(times[0] / time, target)).collect();
@@ -121,9 +129,16 @@ impl Bench {
         Some(times[0])
     }
 
-    /// N = 512 over N = 64, where both were timed.
-    fn growth(&mut self, name: &str, target: Target, large: Option<f64>, small: Option<f64>) {
-        self.over(&format!("N = 512 over N = 64: {name}"), Some(target), large, small);
+    /// How a call grows, where both were timed.
+    fn growth(&mut self, of: &str, name: &str, target: Target, large: Option<f64>, small: Option<f64>) {
+        self.over(&format!("{of}: {name}"), Some(target), large, small);
+    }
+
+    /// The same of several, each with its name, small and large.
+    fn growths(&mut self, of: &str, times: Vec<(String, [Option<f64>; 2])>) {
+        for (name, [small, large]) in times {
+            self.growth(of, &name, GROWTH, large, small);
+        }
     }
 
     /// One of the library's times over another, where both were timed.
@@ -158,6 +173,8 @@ fn main() {
     );
     let (open, three, laid, longest) = forms(seed);
     time_calls(&mut bench, &open, &three, &laid, &longest);
+    let (board_open, board_three, board_laid) = board_forms(seed);
+    time_board(&mut bench, &board_open, &board_three, &board_laid);
     println!("against 004's PCUSPL and SEVAL in C (floats, nothing tested; no target): library over 004");
     for form in laid[..2].iter().flatten() {
         against_pcuspl(&bench, form);
@@ -169,7 +186,7 @@ fn main() {
     );
 }
 
-/// The eleven calls on all forms, and how they grow.
+/// The station's eleven calls on all forms, and how they grow.
 fn time_calls(bench: &mut Bench, open: &[Form; 2], three: &Form, laid: &[[Form; 2]], longest: &[Form; 2]) {
     let ticks = [At::First, At::Middle, At::Last];
     let [small, large] = open;
@@ -181,25 +198,32 @@ fn time_calls(bench: &mut Bench, open: &[Form; 2], three: &Form, laid: &[[Form; 
     let strokes = time_strokes(bench, three, longest);
     for ((name, call, large), (_, _, small)) in large.into_iter().zip(small) {
         if let Call::PlaceAt(At::Last) = call {
-            bench.growth(&name, ASKED_GROWTH, large, small);
+            bench.growth(STATION_GROWTH, &name, ASKED_GROWTH, large, small);
         }
         if let Call::PlaceAt(_) | Call::RunnerAt(_) | Call::Write | Call::Join | Call::Round(_) = call {
-            bench.growth(&name, GROWTH, large, small);
+            bench.growth(STATION_GROWTH, &name, GROWTH, large, small);
         }
         if let Call::Round(seats) = call {
             bench.over(&format!("{seats} seats over 1: round, N = 512"), None, large, one_seat);
         }
     }
-    for (name, [small, large]) in per_pass {
-        bench.growth(&format!("lay out, a pass, {name}"), GROWTH, large, small);
-    }
-    for (name, [small, large]) in strokes {
-        bench.growth(&name, GROWTH, large, small);
-    }
+    bench.growths(STATION_GROWTH, per_pass);
+    bench.growths(STATION_GROWTH, strokes);
 }
 
-/// The calls but for laying out on one form, places and runners at these ticks: name, call, the library's nanoseconds.
-fn time_form(bench: &mut Bench, form: &Form, ticks: &[At]) -> Vec<(String, Call, Option<f64>)> {
+/// The board's six calls on its forms, and how they grow.
+fn time_board(bench: &mut Bench, [small, large]: &[Form; 2], three: &Form, laid: &[[Form; 2]]) {
+    let [large, small] = [large, small].map(|form| time_form(bench, form, &[At::First, At::Middle, At::Last]));
+    time_form(bench, three, &[At::Last]);
+    let per_pass = time_laying_out(bench, three, laid);
+    for ((name, _, large), (_, _, small)) in large.into_iter().zip(small) {
+        bench.growth(BOARD_GROWTH, &name, GROWTH, large, small);
+    }
+    bench.growths(BOARD_GROWTH, per_pass);
+}
+
+/// The calls of whom a form asks, but for laying out, places and runners at these ticks.
+fn time_form(bench: &mut Bench, form: &Form, ticks: &[At]) -> Vec<Timed> {
     let at_ticks = |what: &str, call: fn(At) -> Call| -> Vec<(String, Call)> {
         ticks.iter().map(|at| (format!("{what} at {}", at.name()), call(*at))).collect()
     };
@@ -219,7 +243,7 @@ fn time_form(bench: &mut Bench, form: &Form, ticks: &[At]) -> Vec<(String, Call,
         let time = bench.call(&name, form, call);
         (name, call, time)
     };
-    calls.into_iter().flatten().map(timed).collect()
+    calls.into_iter().flatten().filter(|(_, call)| !form.board || call.is_of_board()).map(timed).collect()
 }
 
 /// Laps on a closed course: where the laps of a tick are divided for (M10), and where one is added or taken off.
@@ -239,9 +263,9 @@ fn time_laying_out(bench: &mut Bench, three: &Form, laid: &[[Form; 2]]) -> Vec<(
         time.map(|time| time / form.passes)
     };
     for [small, large] in laid {
-        let name = small.name.trim_start_matches("N = 64, ").to_string();
+        let name = small.name.rsplit(", ").next().unwrap_or_default();
         let large = timed(large);
-        per_pass.push((name, [timed(small), large]));
+        per_pass.push((format!("lay out, a pass, {name}"), [timed(small), large]));
     }
     timed(three);
     per_pass.truncate(2);
@@ -284,11 +308,11 @@ fn against_pcuspl(bench: &Bench, form: &Form) {
             let sheet = &form.sheets[k];
             // SAFETY: pointers and lengths of live slices that do not overlap.
             unsafe {
-                (LIBRARY.lay_out)(sheet.as_ptr(), sheet.len(), list.as_mut_ptr(), list.len());
+                (LIBRARY.station.lay_out)(sheet.as_ptr(), sheet.len(), list.as_mut_ptr(), list.len());
                 for i in 0..ticks {
                     let tick = form.last[k] * i / ticks;
                     let (l, m) = (list.as_ptr(), list.len());
-                    black_box((LIBRARY.place_at_tick)(sheet.as_ptr(), sheet.len(), l, m, tick, place.as_mut_ptr(), 3));
+                    black_box((LIBRARY.station.place_at_tick)(sheet.as_ptr(), sheet.len(), l, m, tick, place.as_mut_ptr(), 3));
                 }
             }
         });
