@@ -1,7 +1,7 @@
 //! Compiles the C files with gcc (no outside crate) and links the station's library.
 //!
-//! STATION_LIBRARY names the library: a path to an archive (default: target/staticlib/libstation.a of the repository, which tools/archive
-//! makes), or the word `base`, which puts c/base.c in its place under the names station_*.
+//! STATION_LIBRARY names the library: a path to an archive with the station's calls and the board's (default: target/staticlib/libstation.a
+//! of the repository, which tools/archive makes), or the word `base`, which puts c/base.c in its place under the names station_* and board_*.
 
 mod room {
     include!("src/room.rs");
@@ -34,18 +34,27 @@ fn compile(here: &Path, out: &Path, source: &str, archive: &str, flags: &[&str])
     println!("cargo:rustc-link-lib=static={archive}");
 }
 
+/// Compiles base.c or careful.c to a set of calls with names of their own: the station's eleven, or with BOARD the board's six.
+fn compile_calls(here: &Path, out: &Path, source: &str, name: &str, flags: &[&str]) {
+    let named = format!("-DNAME(call)={name}_##call");
+    compile(here, out, source, &format!("{name}_calls"), &[flags, &[&named]].concat());
+}
+
 fn main() {
     let here = PathBuf::from(env::var("CARGO_MANIFEST_DIR").unwrap());
     let out = PathBuf::from(env::var("OUT_DIR").unwrap());
     println!("cargo:rerun-if-changed=build.rs");
     println!("cargo:rerun-if-changed=c");
     println!("cargo:rerun-if-changed=src/room.rs");
-    println!("cargo:rerun-if-changed=../include/station.h");
+    println!("cargo:rerun-if-changed=../include");
     println!("cargo:rerun-if-env-changed=STATION_LIBRARY");
 
-    compile(&here, &out, "base.c", "base", &[]);
-    compile(&here, &out, "careful.c", "careful", &["-O3"]);
-    compile(&here, &out, "careful.c", "half_first", &["-O3", "-DHALF_FIRST"]);
+    compile_calls(&here, &out, "base.c", "base", &[]);
+    compile_calls(&here, &out, "base.c", "base_board", &["-DBOARD"]);
+    compile_calls(&here, &out, "careful.c", "careful", &["-O3"]);
+    compile_calls(&here, &out, "careful.c", "careful_board", &["-O3", "-DBOARD"]);
+    compile_calls(&here, &out, "careful.c", "half_first", &["-O3", "-DHALF_FIRST"]);
+    compile_calls(&here, &out, "careful.c", "half_first_board", &["-O3", "-DHALF_FIRST", "-DBOARD"]);
     compile(&here, &out, "pcuspl.c", "pcuspl", &[]);
     // a null pointer that the header hands to a call is a trap, which evidence reports (src/bin/evidence/hit.rs)
     compile(&here, &out, "header.c", "header", &["-fsanitize=nonnull-attribute", "-fsanitize-undefined-trap-on-error"]);
@@ -53,7 +62,8 @@ fn main() {
     let default = here.join("../target/staticlib/libstation.a").display().to_string();
     let library = env::var("STATION_LIBRARY").unwrap_or(default);
     if library == "base" {
-        compile(&here, &out, "base.c", "standin", &["-DNAME(call)=station_##call"]);
+        compile_calls(&here, &out, "base.c", "station", &[]);
+        compile_calls(&here, &out, "base.c", "board", &["-DBOARD"]);
         println!("cargo:rustc-env=STATION_LIBRARY_NAME=the stand-in c/base.c");
     } else {
         let library = std::fs::canonicalize(&library)

@@ -1,10 +1,7 @@
 /* The calls in plain C, as one writes them from docs/REQUIREMENTS.md: the baseline of the benchmark (gcc -O2) and the stand-in for the
- * library (then compiled a second time with the names station_*), on which the mutants are tried. Numbers are read from the sheet's
+ * library (then compiled once more with the names station_* and board_*), on which the mutants are tried. Numbers are read from the sheet's
  * bytes where they are needed and written as single bytes; laying out ends early after a pass that changed nothing; strokes are counted,
  * then drawn. */
-#ifndef NAME
-#define NAME(call) base_##call
-#endif
 #include "calls.h"
 
 static uint32_t be16(const uint8_t *p)
@@ -45,7 +42,7 @@ static int is_beyond_reach(uint64_t axis, int64_t value)
     return value < -1000000 || value > 1000000;
 }
 
-static uint64_t read_course(const uint8_t *s, size_t length, struct course *c)
+static uint64_t read_course(const uint8_t *s, size_t length, uint64_t most, struct course *c)
 {
     if (length < 8 || be32(s) != length)
         return STATION_TORN;
@@ -57,6 +54,8 @@ static uint64_t read_course(const uint8_t *s, size_t length, struct course *c)
     c->n = be16(s + 6);
     if (c->n < (c->kind == STATION_CLOSED ? 3 : 2) || c->n > 512)
         return STATION_POINTS;
+    if (c->n > most)
+        return STATION_BOARD;
     c->leg_count = c->kind == STATION_CLOSED ? c->n : c->n - 1;
     if (length != 8 + 2 * c->leg_count + 12 * c->n + (c->kind == STATION_HELD ? 24 : 0))
         return STATION_SIZE;
@@ -205,6 +204,7 @@ static uint64_t place(const struct course *c, const int64_t *list, uint64_t leg,
     return STATION_DONE;
 }
 
+#ifndef BOARD
 static int some_leg_bad(const uint64_t *legs, size_t count)
 {
     for (size_t i = 0; i < count; i++)
@@ -323,3 +323,4 @@ static uint64_t draw(const struct course *c, const int64_t *list, int64_t tolera
     draw_legs(c, list, tolerance, ends);
     return STATION_DONE;
 }
+#endif

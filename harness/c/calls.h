@@ -1,9 +1,17 @@
-/* The eleven calls of include/station.h over twelve parts, which base.c and careful.c write each in its own way. The file that includes
- * this one says by NAME what its calls are called; by KEPT it may say what it keeps of a course beside its fields. ROOM and NO_RUNNER are
- * the answers where a lent slice is too short, from src/room.rs; nothing is written into it then. */
-#include "station.h"
+/* The eleven calls of include/station.h over twelve parts, which base.c and careful.c write each in its own way; where BOARD is set the six
+ * of include/board.h, which are the same code with the board's limit, over the first five parts. The file that includes this one says by
+ * NAME what its calls are called; by KEPT it may say what it keeps of a course beside its fields. ROOM and NO_RUNNER are the answers where
+ * a lent slice is too short, from src/room.rs; nothing is written into it then. */
+#include "board.h"
 
 #include <string.h>
+
+/* The most waypoints that there is memory for (N4, N23). */
+#ifdef BOARD
+#define MOST_POINTS 48
+#else
+#define MOST_POINTS 512
+#endif
 
 #ifndef KEPT
 #define KEPT
@@ -15,8 +23,8 @@ struct course {
     KEPT
 };
 
-/* Tests 1 to 8; fills the course in where none applies. */
-static uint64_t read_course(const uint8_t *s, size_t length, struct course *c);
+/* Tests 1 to 8, and behind 4 that N is not over `most`, which is 23; fills the course in where none applies. */
+static uint64_t read_course(const uint8_t *s, size_t length, uint64_t most, struct course *c);
 /* Lays out all three axes in the first 3N places of a list. */
 static void lay_out_axes(const struct course *c, int64_t *list);
 /* Test 10, then the leg, offset and laps that a tick names. */
@@ -25,6 +33,7 @@ static uint64_t find_tick(const struct course *c, uint64_t tick, uint64_t *leg, 
 static uint64_t leg_length(const struct course *c, uint64_t leg);
 /* Test 12, the room, then the place at a leg and an offset that fit. */
 static uint64_t place(const struct course *c, const int64_t *list, uint64_t leg, uint64_t offset, int64_t *out, size_t out_length);
+#ifndef BOARD
 /* Test 6 over a list of legs: whether it applies. */
 static int some_leg_bad(const uint64_t *legs, size_t count);
 /* Test 7 over n waypoints of three numbers. */
@@ -39,6 +48,7 @@ static uint8_t *put_numbers(uint8_t *p, const int64_t *numbers, size_t count);
 static int some_bend_bad(const int64_t *list, size_t count);
 /* Test 22, then the ends of all strokes (H4), and how many they are. */
 static uint64_t draw(const struct course *c, const int64_t *list, int64_t tolerance, uint64_t *ends, size_t ends_length, uint64_t *count);
+#endif
 
 /* Test 11. */
 static int is_adrift(const struct course *c, uint64_t leg, uint64_t offset, uint64_t laps)
@@ -74,7 +84,7 @@ static inline uint64_t move_on(const struct course *c, uint64_t *runner)
 uint64_t NAME(read)(const uint8_t *sheet, size_t sheet_length, uint64_t *out, size_t out_length)
 {
     struct course c;
-    uint64_t answer = read_course(sheet, sheet_length, &c);
+    uint64_t answer = read_course(sheet, sheet_length, MOST_POINTS, &c);
     if (answer)
         return answer;
     if (out_length < 3)
@@ -88,7 +98,7 @@ uint64_t NAME(read)(const uint8_t *sheet, size_t sheet_length, uint64_t *out, si
 uint64_t NAME(lay_out)(const uint8_t *sheet, size_t sheet_length, int64_t *list, size_t list_length)
 {
     struct course c;
-    uint64_t answer = read_course(sheet, sheet_length, &c);
+    uint64_t answer = read_course(sheet, sheet_length, MOST_POINTS, &c);
     if (answer)
         return answer;
     if (list_length < 3 * c.n)
@@ -102,7 +112,7 @@ uint64_t NAME(place_at_tick)(const uint8_t *sheet, size_t sheet_length, const in
 {
     struct course c;
     uint64_t leg, offset, laps;
-    uint64_t answer = read_course(sheet, sheet_length, &c);
+    uint64_t answer = read_course(sheet, sheet_length, MOST_POINTS, &c);
     if (answer)
         return answer;
     if (list_length < 3 * c.n)
@@ -117,7 +127,7 @@ uint64_t NAME(place_of_runner)(const uint8_t *sheet, size_t sheet_length, const 
                                uint64_t offset, uint64_t laps, int64_t *out, size_t out_length)
 {
     struct course c;
-    uint64_t answer = read_course(sheet, sheet_length, &c);
+    uint64_t answer = read_course(sheet, sheet_length, MOST_POINTS, &c);
     if (answer)
         return answer;
     if (list_length < 3 * c.n)
@@ -131,7 +141,7 @@ uint64_t NAME(runner_at_tick)(const uint8_t *sheet, size_t sheet_length, uint64_
 {
     struct course c;
     uint64_t leg, offset, laps;
-    uint64_t answer = read_course(sheet, sheet_length, &c);
+    uint64_t answer = read_course(sheet, sheet_length, MOST_POINTS, &c);
     if (answer)
         return answer;
     answer = find_tick(&c, tick, &leg, &offset, &laps);
@@ -148,7 +158,7 @@ uint64_t NAME(runner_at_tick)(const uint8_t *sheet, size_t sheet_length, uint64_
 uint64_t NAME(step)(const uint8_t *sheet, size_t sheet_length, uint64_t *runner, size_t runner_length)
 {
     struct course c;
-    uint64_t answer = read_course(sheet, sheet_length, &c);
+    uint64_t answer = read_course(sheet, sheet_length, MOST_POINTS, &c);
     if (answer)
         return answer;
     if (runner_length < 3)
@@ -156,10 +166,11 @@ uint64_t NAME(step)(const uint8_t *sheet, size_t sheet_length, uint64_t *runner,
     return move_on(&c, runner);
 }
 
+#ifndef BOARD
 uint64_t NAME(back)(const uint8_t *sheet, size_t sheet_length, uint64_t *runner, size_t runner_length)
 {
     struct course c;
-    uint64_t answer = read_course(sheet, sheet_length, &c);
+    uint64_t answer = read_course(sheet, sheet_length, MOST_POINTS, &c);
     if (answer)
         return answer;
     if (runner_length < 3)
@@ -238,10 +249,10 @@ uint64_t NAME(join)(const uint8_t *first, size_t first_length, const uint8_t *se
                     size_t sheet_length, uint64_t *out, size_t out_length)
 {
     struct course a, b;
-    uint64_t answer = read_course(first, first_length, &a);
+    uint64_t answer = read_course(first, first_length, MOST_POINTS, &a);
     if (answer)
         return answer;
-    answer = read_course(second, second_length, &b);
+    answer = read_course(second, second_length, MOST_POINTS, &b);
     if (answer)
         return answer;
     if (a.kind != STATION_FREE || b.kind != STATION_FREE)
@@ -271,7 +282,7 @@ uint64_t NAME(round)(const uint8_t *sheet, size_t sheet_length, const int64_t *l
 {
     struct course c;
     size_t seats = fleet_length / 3;
-    uint64_t answer = read_course(sheet, sheet_length, &c);
+    uint64_t answer = read_course(sheet, sheet_length, MOST_POINTS, &c);
     if (answer)
         return answer;
     if (list_length < 3 * c.n)
@@ -301,7 +312,7 @@ uint64_t NAME(strokes)(const uint8_t *sheet, size_t sheet_length, const int64_t 
 {
     struct course c;
     uint64_t count;
-    uint64_t answer = read_course(sheet, sheet_length, &c);
+    uint64_t answer = read_course(sheet, sheet_length, MOST_POINTS, &c);
     if (answer)
         return answer;
     if (list_length < 3 * c.n)
@@ -318,3 +329,4 @@ uint64_t NAME(strokes)(const uint8_t *sheet, size_t sheet_length, const int64_t 
     out[0] = count;
     return STATION_DONE;
 }
+#endif

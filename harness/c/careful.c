@@ -4,12 +4,7 @@
  * axis at a time, each row with its one division; laying out ends early after a pass that changed nothing. Reading adds legs by four in a
  * word and keeps their sum at every sixteenth leg, and a tick's leg is looked for among these sums and then from the last that fits (P7).
  * Strokes are counted before they are drawn only where the list may be too short for them, and a stroke's rise is carried along from tick
- * to tick. No vector types. Compiled with gcc -O3, twice: with HALF_FIRST it rounds in another way, and its calls have names of their own. */
-#ifdef HALF_FIRST
-#define NAME(call) half_first_##call
-#else
-#define NAME(call) careful_##call
-#endif
+ * to tick. No vector types. Compiled with gcc -O3, and with HALF_FIRST, where it rounds in another way, under another name. */
 /* sums[b] is the sum of the first 16 * b legs, for each b with so many legs; the others are not set */
 #define KEPT uint32_t sums[33];
 #include "calls.h"
@@ -72,7 +67,7 @@ static inline int add_legs(struct course *c)
     return (many & 0xff00ff00ff00ff00) != 0 || bits > 255;
 }
 
-static uint64_t read_course(const uint8_t *s, size_t length, struct course *c)
+static uint64_t read_course(const uint8_t *s, size_t length, uint64_t most, struct course *c)
 {
     if (length < 8 || be32(s) != length)
         return STATION_TORN;
@@ -84,6 +79,8 @@ static uint64_t read_course(const uint8_t *s, size_t length, struct course *c)
     int closed = kind == STATION_CLOSED, held = kind == STATION_HELD;
     if (n < 2u + closed || n > 512)
         return STATION_POINTS;
+    if (n > most)
+        return STATION_BOARD;
     uint64_t leg_count = n - 1 + closed;
     if (length != 8 + 2 * leg_count + 12 * n + 24 * held)
         return STATION_SIZE;
@@ -256,6 +253,7 @@ static uint64_t place(const struct course *c, const int64_t *list, uint64_t leg,
     return STATION_DONE;
 }
 
+#ifndef BOARD
 static int some_leg_bad(const uint64_t *legs, size_t count)
 {
     uint64_t bits = 0;
@@ -394,3 +392,4 @@ static uint64_t draw(const struct course *c, const int64_t *list, int64_t tolera
     *count = draw_legs(c, list, tolerance, ends);
     return STATION_DONE;
 }
+#endif

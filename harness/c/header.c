@@ -1,20 +1,22 @@
-/* What include/station.h says, for src/header.rs: each enumerator by its name without STATION_, the words, the functions over structs, and
- * some figures by them. A new enumerator of the header belongs in the list; evidence fails while it is not there. */
-#include "station.h"
+/* What include/station.h and include/board.h say, for src/header.rs: each enumerator by its name, the words, the functions over structs,
+ * and some figures by them. A new enumerator of a header belongs in the list; evidence fails while it is not there. */
+#include "board.h"
 
 struct entry {
     const char *name;
     uint64_t value;
 };
 
-#define ENTRY(name) {#name, STATION_##name}
+#define ENTRY(name) {"STATION_" #name, STATION_##name}
+#define BOARD_ENTRY(name) {"BOARD_" #name, BOARD_##name}
 
 static const struct entry entries[] = {
     ENTRY(DONE), ENTRY(TORN), ENTRY(EDITION), ENTRY(ENDS), ENTRY(POINTS), ENTRY(SIZE), ENTRY(LEG),
     ENTRY(REACH), ENTRY(SLOPE), ENTRY(SHELF), ENTRY(PAST), ENTRY(ADRIFT), ENTRY(BEND), ENTRY(LANDED),
     ENTRY(PAGE), ENTRY(START), ENTRY(SHUT), ENTRY(APART), ENTRY(CROWDED), ENTRY(SEATS), ENTRY(TURN), ENTRY(GRAIN), ENTRY(INK),
-    ENTRY(FREE), ENTRY(HELD), ENTRY(CLOSED), ENTRY(LONGEST_SHEET), ENTRY(LONGEST_LIST), ENTRY(MOST_SEATS), ENTRY(MOST_STROKE_ENDS),
-    ENTRY(MOST_TOLERANCE),
+    ENTRY(BOARD), ENTRY(FREE), ENTRY(HELD), ENTRY(CLOSED), ENTRY(LONGEST_SHEET), ENTRY(LONGEST_LIST), ENTRY(MOST_SEATS),
+    ENTRY(MOST_STROKE_ENDS), ENTRY(MOST_TOLERANCE),
+    BOARD_ENTRY(MOST_POINTS), BOARD_ENTRY(LONGEST_SHEET), BOARD_ENTRY(LONGEST_LIST),
 };
 
 /* The i-th enumerator, or 0 past the last. */
@@ -29,53 +31,15 @@ const char *header_word(uint64_t number)
     return station_word(number);
 }
 
-/* The eleven calls by the header's functions over structs, in the form of the calls themselves, so that evidence can compare them alike.
- * The structs hold before a call what out holds. Where out is too short for a struct, and for laying out, there is only the call itself. */
-
-uint64_t structs_read(const uint8_t *sheet, size_t n, uint64_t *out, size_t m)
-{
-    if (m < 3)
-        return station_read(sheet, n, out, m);
-    struct station_course course = {out[0], out[1], out[2]};
-    uint64_t answer = station_read_into(sheet, n, &course);
-    out[0] = course.kind;
-    out[1] = course.waypoints;
-    out[2] = course.ticks;
-    return answer;
-}
-
-uint64_t structs_lay_out(const uint8_t *sheet, size_t n, int64_t *list, size_t k)
-{
-    return station_lay_out(sheet, n, list, k);
-}
+/* The calls by the headers' functions over structs, in the form of the calls themselves, so that evidence can compare them alike. The
+ * structs hold before a call what out holds. Where out is too short for a struct, and for laying out, there is only the call itself. Those
+ * that station and board both have are in forms.h, in which FORM is such a form and CALL the header's function. */
 
 static void put_place(const struct station_place *place, int64_t *out)
 {
     out[0] = place->north;
     out[1] = place->east;
     out[2] = place->up;
-}
-
-uint64_t structs_place_at_tick(const uint8_t *sheet, size_t n, const int64_t *list, size_t k, uint64_t tick, int64_t *out, size_t m)
-{
-    if (m < 3)
-        return station_place_at_tick(sheet, n, list, k, tick, out, m);
-    struct station_place place = {out[0], out[1], out[2]};
-    uint64_t answer = station_place_at_tick_into(sheet, n, list, k, tick, &place);
-    put_place(&place, out);
-    return answer;
-}
-
-uint64_t structs_place_of_runner(const uint8_t *sheet, size_t n, const int64_t *list, size_t k, uint64_t leg, uint64_t offset,
-                                 uint64_t laps, int64_t *out, size_t m)
-{
-    if (m < 3)
-        return station_place_of_runner(sheet, n, list, k, leg, offset, laps, out, m);
-    struct station_place place = {out[0], out[1], out[2]};
-    struct station_runner runner = {leg, offset, laps};
-    uint64_t answer = station_place_of_runner_into(sheet, n, list, k, runner, &place);
-    put_place(&place, out);
-    return answer;
 }
 
 static void put_runner(const struct station_runner *runner, uint64_t *out)
@@ -85,25 +49,15 @@ static void put_runner(const struct station_runner *runner, uint64_t *out)
     out[2] = runner->laps;
 }
 
-uint64_t structs_runner_at_tick(const uint8_t *sheet, size_t n, uint64_t tick, uint64_t *out, size_t m)
-{
-    if (m < 3)
-        return station_runner_at_tick(sheet, n, tick, out, m);
-    struct station_runner runner = {out[0], out[1], out[2]};
-    uint64_t answer = station_runner_at_tick_into(sheet, n, tick, &runner);
-    put_runner(&runner, out);
-    return answer;
-}
+#define FORM(call) structs_##call
+#define CALL(call) station_##call
+#include "forms.h"
+#undef FORM
+#undef CALL
 
-uint64_t structs_step(const uint8_t *sheet, size_t n, uint64_t *runner, size_t m)
-{
-    if (m < 3)
-        return station_step(sheet, n, runner, m);
-    struct station_runner record = {runner[0], runner[1], runner[2]};
-    uint64_t answer = station_step_runner(sheet, n, &record);
-    put_runner(&record, runner);
-    return answer;
-}
+#define FORM(call) structs_board_##call
+#define CALL(call) board_##call
+#include "forms.h"
 
 uint64_t structs_back(const uint8_t *sheet, size_t n, uint64_t *runner, size_t m)
 {

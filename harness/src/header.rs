@@ -1,9 +1,10 @@
-//! What include/station.h says, by a C file that includes it (c/header.c) and by its text: for the part `header` of the evidence.
+//! What include/station.h and include/board.h say, by a C file that includes them (c/header.c) and by their text: for the part `header` of
+//! the evidence.
 
 use std::ffi::{c_char, CStr};
 
-/// The header's text.
-const TEXT: &str = include_str!("../../include/station.h");
+/// The headers' text, each with what its enumerators' names begin with.
+const TEXTS: [(&str, &str); 2] = [("STATION_", include_str!("../../include/station.h")), ("BOARD_", include_str!("../../include/board.h"))];
 
 /// c/header.c's entry.
 #[repr(C)]
@@ -26,7 +27,7 @@ unsafe fn owned(text: *const c_char) -> Option<String> {
     (!text.is_null()).then(|| CStr::from_ptr(text).to_string_lossy().into_owned())
 }
 
-/// The enumerators as the compiler has them, by their names without STATION_.
+/// The enumerators as the compiler has them, by their names.
 pub fn compiled() -> Vec<(String, u64)> {
     (0..)
         // SAFETY: entries are static.
@@ -34,12 +35,12 @@ pub fn compiled() -> Vec<(String, u64)> {
         .collect()
 }
 
-/// The names of all enumerators that the text sets, without STATION_.
+/// The names of all enumerators that the texts set.
 pub fn written() -> Vec<String> {
-    let names = TEXT.split("STATION_").skip(1).map(|rest| {
+    let names = TEXTS.iter().flat_map(|(first, text)| text.split(first).skip(1).map(move |rest| (first, rest))).map(|(first, rest)| {
         let name: String = rest.chars().take_while(|letter| letter.is_ascii_alphanumeric() || *letter == '_').collect();
         let set = rest[name.len()..].trim_start().strip_prefix('=').is_some_and(|value| !value.starts_with('='));
-        (name, set)
+        (format!("{first}{name}"), set)
     });
     names.filter(|(_, set)| *set).map(|(name, _)| name).collect()
 }

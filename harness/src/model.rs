@@ -13,7 +13,7 @@ mod writing;
 pub use joining::join;
 pub use refusals::*;
 pub use rounds::{round, Served, MOST_SEATS};
-pub use runners::{backed, runner_at_tick, stepped, Runner};
+pub use runners::Runner;
 pub use strokes::{strokes, MOST_STROKE_ENDS, MOST_TOLERANCE};
 pub use writing::{write, Lists};
 
@@ -27,6 +27,12 @@ pub enum Kind {
 
 /// N4: the most waypoints.
 pub const MOST_POINTS: usize = 512;
+
+/// Who reads a sheet, by the most waypoints that it has memory for.
+#[derive(Clone, Copy, Debug)]
+pub struct Reader {
+    pub most: usize,
+}
 
 /// N7: a waypoint's least and greatest number on north, east and up.
 pub const REACH_LIMITS: [[i128; 2]; 3] = [[-1_000_000, 1_000_000], [-1_000_000, 1_000_000], [-50_000, 120_000]];
@@ -93,35 +99,78 @@ fn signed(bytes: &[u8]) -> i128 {
     }
 }
 
-/// A2: reading tests 1 to 8 and answers the lowest that applies (A1).
-pub fn read(sheet: &[u8]) -> Result<Course, u64> {
-    // N1
-    if sheet.len() < 8 || unsigned(&sheet[0..4]) != sheet.len() as i128 {
-        return Err(TORN);
+impl Reader {
+    /// It has memory for every sheet, and so never says 23.
+    pub const STATION: Reader = Reader { most: MOST_POINTS };
+
+    /// N23.
+    pub const BOARD: Reader = Reader { most: 48 };
+
+    /// A2: reading tests 1 to 8, with 23 behind 4 (A16), and answers the first that applies.
+    pub fn read(self, sheet: &[u8]) -> Result<Course, u64> {
+        // N1
+        if sheet.len() < 8 || unsigned(&sheet[0..4]) != sheet.len() as i128 {
+            return Err(TORN);
+        }
+        // N2
+        if sheet[4] != 1 {
+            return Err(EDITION);
+        }
+        // N3
+        let kind = match sheet[5] {
+            0 => Kind::Free,
+            1 => Kind::Held,
+            2 => Kind::Closed,
+            _ => return Err(ENDS),
+        };
+        // N4
+        let n = unsigned(&sheet[6..8]) as usize;
+        if n < kind.least_points() || n > MOST_POINTS {
+            return Err(POINTS);
+        }
+        // N23
+        if n > self.most {
+            return Err(BOARD);
+        }
+        // N5
+        if sheet.len() != kind.sheet_length(n) {
+            return Err(SIZE);
+        }
+        let course = decoded(kind, n, &sheet[8..]);
+        course.within_limits()?;
+        Ok(course)
     }
-    // N2
-    if sheet[4] != 1 {
-        return Err(EDITION);
+
+    /// A3; the list is filled as L5 says.
+    pub fn lay_out(self, sheet: &[u8], list: &mut [i64]) -> Result<(), u64> {
+        let course = self.read(sheet)?;
+        shelf(&course, list)?;
+        for axis in 0..3 {
+            for (i, z) in course.bends(axis).into_iter().enumerate() {
+                list[axis * course.n + i] = i64::try_from(z).expect("a bend number has 64 bits");
+            }
+        }
+        Ok(())
     }
-    // N3
-    let kind = match sheet[5] {
-        0 => Kind::Free,
-        1 => Kind::Held,
-        2 => Kind::Closed,
-        _ => return Err(ENDS),
-    };
-    // N4
-    let n = unsigned(&sheet[6..8]) as usize;
-    if n < kind.least_points() || n > MOST_POINTS {
-        return Err(POINTS);
+
+    /// A4.
+    pub fn place_at_tick(self, sheet: &[u8], list: &[i64], tick: u64) -> Result<[i64; 3], u64> {
+        let course = self.read(sheet)?;
+        shelf(&course, list)?;
+        let (leg, offset) = course.leg_and_offset(tick).ok_or(PAST)?;
+        course.place(list, leg, offset)
     }
-    // N5
-    if sheet.len() != kind.sheet_length(n) {
-        return Err(SIZE);
+
+    /// A5.
+    pub fn place_of_runner(self, sheet: &[u8], list: &[i64], runner: Runner) -> Result<[i64; 3], u64> {
+        let course = self.read(sheet)?;
+        shelf(&course, list)?;
+        if !course.fits(runner) {
+            return Err(ADRIFT);
+        }
+        let [leg, offset, _] = runner;
+        course.place(list, leg as usize, i128::from(offset))
     }
-    let course = decoded(kind, n, &sheet[8..]);
-    course.within_limits()?;
-    Ok(course)
 }
 
 /// S6, S7, S8: what stands behind the first eight bytes.
@@ -283,35 +332,4 @@ fn shelf(course: &Course, list: &[i64]) -> Result<(), u64> {
         return Err(SHELF);
     }
     Ok(())
-}
-
-/// A3; the list is filled as L5 says.
-pub fn lay_out(sheet: &[u8], list: &mut [i64]) -> Result<(), u64> {
-    let course = read(sheet)?;
-    shelf(&course, list)?;
-    for axis in 0..3 {
-        for (i, z) in course.bends(axis).into_iter().enumerate() {
-            list[axis * course.n + i] = i64::try_from(z).expect("a bend number has 64 bits");
-        }
-    }
-    Ok(())
-}
-
-/// A4.
-pub fn place_at_tick(sheet: &[u8], list: &[i64], tick: u64) -> Result<[i64; 3], u64> {
-    let course = read(sheet)?;
-    shelf(&course, list)?;
-    let (leg, offset) = course.leg_and_offset(tick).ok_or(PAST)?;
-    course.place(list, leg, offset)
-}
-
-/// A5.
-pub fn place_of_runner(sheet: &[u8], list: &[i64], runner: Runner) -> Result<[i64; 3], u64> {
-    let course = read(sheet)?;
-    shelf(&course, list)?;
-    if !course.fits(runner) {
-        return Err(ADRIFT);
-    }
-    let [leg, offset, _] = runner;
-    course.place(list, leg as usize, i128::from(offset))
 }

@@ -52,7 +52,7 @@ impl Draft {
 }
 
 /// Writes the slice's length into bytes 0 to 3, where there are so many.
-fn mend(bytes: &mut [u8]) {
+pub fn mend(bytes: &mut [u8]) {
     let length = (bytes.len() as u32).to_be_bytes();
     if let Some(field) = bytes.get_mut(0..4) {
         field.copy_from_slice(&length);
@@ -220,7 +220,7 @@ fn move_field(random: &mut Random, draft: &mut Draft, field: usize) {
 fn move_count(random: &mut Random, draft: &mut Draft) {
     // 65,535 waypoints that fit the formula are nearly a megabyte: seldom
     let large = random.once_in(200);
-    draft.n = random.pick(&[0, 1, 2, 3, 4, 511, 512, 513, 514, if large { 65_535 } else { 600 }]);
+    draft.n = random.pick(&[0, 1, 2, 3, 4, 48, 49, 511, 512, 513, 514, if large { 65_535 } else { 600 }]);
     if random.below(4) > 0 {
         draft.fit(random);
     } else {

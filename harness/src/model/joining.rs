@@ -1,6 +1,6 @@
 //! The model's joining (group J): one course of two.
 
-use super::{read, Course, Kind, APART, CROWDED, MOST_POINTS, SHUT};
+use super::{Course, Kind, Reader, APART, CROWDED, MOST_POINTS, SHUT};
 
 impl Course {
     /// J2: both courses as one, refused by 16, 17 or 18.
@@ -25,7 +25,7 @@ impl Course {
 
 /// A13: the joined sheet at the front of the page; its length.
 pub fn join(first: &[u8], second: &[u8], page: &mut [u8]) -> Result<usize, u64> {
-    let first = read(first)?;
-    let second = read(second)?;
+    let first = Reader::STATION.read(first)?;
+    let second = Reader::STATION.read(second)?;
     first.joined(second)?.put_on(page)
 }

@@ -22,9 +22,10 @@ pub const SEATS: u64 = 19;
 pub const TURN: u64 = 20;
 pub const GRAIN: u64 = 21;
 pub const INK: u64 = 22;
+pub const BOARD: u64 = 23;
 
-/// The words of N1 to N22, by number; 0 has none.
-pub const WORDS: [&str; 23] = [
+/// The words of N1 to N23, by number; 0 has none.
+pub const WORDS: [&str; 24] = [
     "", "torn", "edition", "ends", "points", "size", "leg", "reach", "slope", "shelf", "past", "adrift", "bend", "landed", "page", "start",
-    "shut", "apart", "crowded", "seats", "turn", "grain", "ink",
+    "shut", "apart", "crowded", "seats", "turn", "grain", "ink", "board",
 ];

@@ -1,6 +1,6 @@
 //! The model's ticks, runners and laps (group M).
 
-use super::{read, Course, ADRIFT, LANDED, PAST, START};
+use super::{Course, Reader, ADRIFT, LANDED, PAST, START};
 
 /// M1: leg, offset, laps flown.
 pub type Runner = [u64; 3];
@@ -38,7 +38,7 @@ impl Course {
         offset < h || (!self.closed() && leg as usize == self.legs.len() - 1 && offset == h)
     }
 
-    /// N11, N13, then the runner one tick on.
+    /// A7, of a sheet that was read: N11, N13, then the runner one tick on.
     pub fn stepped(&self, runner: Runner) -> Result<Runner, u64> {
         if !self.fits(runner) {
             return Err(ADRIFT);
@@ -65,7 +65,7 @@ impl Course {
         i128::from(laps) * self.ticks() + self.legs[..leg as usize].iter().sum::<i128>() + i128::from(offset)
     }
 
-    /// N11, N15, then the runner one tick back: the one that has flown a tick less (M11).
+    /// A12, likewise: N11, N15, then the runner one tick back: the one that has flown a tick less (M11).
     pub fn backed(&self, runner: Runner) -> Result<Runner, u64> {
         if !self.fits(runner) {
             return Err(ADRIFT);
@@ -80,17 +80,9 @@ impl Course {
     }
 }
 
-/// A6.
-pub fn runner_at_tick(sheet: &[u8], tick: u64) -> Result<Runner, u64> {
-    read(sheet)?.runner(tick).ok_or(PAST)
-}
-
-/// A7: the runner one tick on.
-pub fn stepped(sheet: &[u8], runner: Runner) -> Result<Runner, u64> {
-    read(sheet)?.stepped(runner)
-}
-
-/// A12: the runner one tick back.
-pub fn backed(sheet: &[u8], runner: Runner) -> Result<Runner, u64> {
-    read(sheet)?.backed(runner)
+impl Reader {
+    /// A6.
+    pub fn runner_at_tick(self, sheet: &[u8], tick: u64) -> Result<Runner, u64> {
+        self.read(sheet)?.runner(tick).ok_or(PAST)
+    }
 }

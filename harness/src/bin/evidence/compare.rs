@@ -2,10 +2,10 @@
 
 use crate::hit::{self, Doing};
 use crate::parts::{Part, Tally};
-use crate::wrapper::{self, Refusal};
+use crate::wrapper::{self, Refusal, Six};
 use harness::boundary::{Call, Calls, Lent, Memory, BASE, CAREFUL, HALF_FIRST, LIBRARY, NAMES, STRUCTS};
 use harness::fence::{Fenced, Stand};
-use harness::model::{self, Course, Lists, MOST_STROKE_ENDS, WORDS};
+use harness::model::{Course, Lists, Reader, MOST_STROKE_ENDS, WORDS};
 use harness::room::ROOM;
 
 pub struct Comparison {
@@ -77,7 +77,7 @@ impl Comparison {
 
     /// The course of a sheet that has to be accepted.
     pub fn course(&mut self, sheet: &[u8]) -> Option<Course> {
-        let course = model::read(sheet);
+        let course = Reader::STATION.read(sheet);
         self.require(course.is_ok(), || format!("the model does not accept the sheet {}", hex(sheet)));
         course.ok()
     }
@@ -131,6 +131,14 @@ impl Comparison {
         (answer, after)
     }
 
+    /// Compares a call, and the same of the board where it has it; what the model says of the call itself.
+    pub fn compare_both(&mut self, call: &Call, sheet: &[u8], before: &Lent) -> (u64, Lent) {
+        if let Some(call) = call.on_board() {
+            self.compare(&call, sheet, before);
+        }
+        self.compare(call, sheet, before)
+    }
+
     /// Compares the Rust wrapper's answer to the same call; it always has room. A kind above 2 cannot be said there, nor numbers behind a
     /// fleet's last seat, and the next turn takes the turn's place.
     pub fn compare_wrapper(&mut self, call: &Call, sheet: &[u8], before: &Lent) {
@@ -160,12 +168,7 @@ impl Comparison {
 /// One call by the wrapper; its results go where the C boundary would write them.
 fn by_wrapper(call: &Call, sheet: &[u8], lent: &mut Lent) -> Result<(), Refusal> {
     match *call {
-        Call::Read => wrapper::read(sheet).map(|course| lent.words.copy_from_slice(&course)),
-        Call::LayOut => wrapper::lay_out(sheet, &mut lent.list),
-        Call::PlaceAtTick { tick } => wrapper::place_at_tick(sheet, &lent.list, tick).map(|place| lent.place = place.to_vec()),
-        Call::PlaceOfRunner { runner } => wrapper::place_of_runner(sheet, &lent.list, runner).map(|place| lent.place = place.to_vec()),
-        Call::RunnerAtTick { tick } => wrapper::runner_at_tick(sheet, tick).map(|runner| lent.words.copy_from_slice(&runner)),
-        Call::Step => moved(sheet, &mut lent.words, wrapper::step),
+        Call::Board(ref call) => by_wrapped_six(call, &wrapper::BOARD, sheet, lent),
         Call::Back => moved(sheet, &mut lent.words, wrapper::back),
         Call::Write(ref lists) => wrapper::write(lists, &mut lent.page).map(|length| lent.words[0] = length as u64),
         Call::Join(ref second) => wrapper::join(sheet, second, &mut lent.page).map(|length| lent.words[0] = length as u64),
@@ -175,6 +178,20 @@ fn by_wrapper(call: &Call, sheet: &[u8], lent: &mut Lent) -> Result<(), Refusal>
         Call::Strokes { tolerance } => {
             wrapper::strokes(sheet, &lent.list, tolerance, &mut lent.ends).map(|count| lent.words[0] = count as u64)
         }
+        _ => by_wrapped_six(call, &wrapper::STATION, sheet, lent),
+    }
+}
+
+/// One of the six calls that station and board both have, by the wrapper of one of the two.
+fn by_wrapped_six(call: &Call, six: &Six, sheet: &[u8], lent: &mut Lent) -> Result<(), Refusal> {
+    match *call {
+        Call::Read => (six.read)(sheet).map(|course| lent.words.copy_from_slice(&course)),
+        Call::LayOut => (six.lay_out)(sheet, &mut lent.list),
+        Call::PlaceAtTick { tick } => (six.place_at_tick)(sheet, &lent.list, tick).map(|place| lent.place = place.to_vec()),
+        Call::PlaceOfRunner { runner } => (six.place_of_runner)(sheet, &lent.list, runner).map(|place| lent.place = place.to_vec()),
+        Call::RunnerAtTick { tick } => (six.runner_at_tick)(sheet, tick).map(|runner| lent.words.copy_from_slice(&runner)),
+        Call::Step => moved(sheet, &mut lent.words, six.step),
+        _ => panic!("only the station has {}", NAMES[call.index()]),
     }
 }
 

@@ -1,23 +1,26 @@
-//! include/station.h against the model: every enumerator as the compiler has it, none left out, and the words; and W17 by a C file that
-//! includes it. (Its functions over structs are compared as the calls are, by compare.rs.)
+//! include/station.h and include/board.h against the model: every enumerator as the compiler has it, none left out, and the words; and W17
+//! by a C file that includes them. (Their functions over structs are compared as the calls are, by compare.rs.)
 
 use crate::compare::Comparison;
 use crate::parts::Part;
 use harness::header;
-use harness::model::{Kind, MOST_POINTS, MOST_SEATS, MOST_STROKE_ENDS, MOST_TOLERANCE, WORDS};
+use harness::model::{Kind, Reader, MOST_SEATS, MOST_STROKE_ENDS, MOST_TOLERANCE, WORDS};
 
-/// What the header's enumerators have to be.
+/// What the headers' enumerators have to be.
 fn wanted() -> Vec<(String, u64)> {
     let number = |i: usize| if i == 0 { "DONE".to_string() } else { WORDS[i].to_uppercase() };
-    let numbers = (0..WORDS.len()).map(|i| (number(i), i as u64));
-    let kinds = Kind::ALL.map(|kind| (format!("{kind:?}").to_uppercase(), kind as u64));
-    let longest = Kind::ALL.map(|kind| kind.sheet_length(MOST_POINTS)).into_iter().max();
+    let numbers = (0..WORDS.len()).map(|i| (format!("STATION_{}", number(i)), i as u64));
+    let kinds = Kind::ALL.map(|kind| (format!("STATION_{kind:?}").to_uppercase(), kind as u64));
+    let longest = |reader: Reader| Kind::ALL.map(|kind| kind.sheet_length(reader.most)).into_iter().max().unwrap_or(0);
     let sizes = [
-        ("LONGEST_SHEET", longest.unwrap_or(0)),
-        ("LONGEST_LIST", 3 * MOST_POINTS),
-        ("MOST_SEATS", MOST_SEATS),
-        ("MOST_STROKE_ENDS", MOST_STROKE_ENDS),
-        ("MOST_TOLERANCE", MOST_TOLERANCE as usize),
+        ("STATION_LONGEST_SHEET", longest(Reader::STATION)),
+        ("STATION_LONGEST_LIST", 3 * Reader::STATION.most),
+        ("STATION_MOST_SEATS", MOST_SEATS),
+        ("STATION_MOST_STROKE_ENDS", MOST_STROKE_ENDS),
+        ("STATION_MOST_TOLERANCE", MOST_TOLERANCE as usize),
+        ("BOARD_MOST_POINTS", Reader::BOARD.most),
+        ("BOARD_LONGEST_SHEET", longest(Reader::BOARD)),
+        ("BOARD_LONGEST_LIST", 3 * Reader::BOARD.most),
     ];
     numbers.chain(kinds).chain(sizes.map(|(name, size)| (name.to_string(), size as u64))).collect()
 }
@@ -27,12 +30,11 @@ pub fn run(comparison: &mut Comparison) {
     let (wanted, compiled) = (wanted(), header::compiled());
     for (name, value) in &wanted {
         let found: Vec<u64> = compiled.iter().filter(|entry| entry.0 == *name).map(|entry| entry.1).collect();
-        comparison.require(found == [*value], || format!("STATION_{name} is {found:?} in the header, {value} by the model"));
+        comparison.require(found == [*value], || format!("{name} is {found:?} in the header, {value} by the model"));
     }
     for name in header::written() {
         let known = wanted.iter().any(|entry| entry.0 == name) && compiled.iter().any(|entry| entry.0 == name);
-        comparison
-            .require(known, || format!("STATION_{name} of the header is not compared (harness/c/header.c, src/bin/evidence/header.rs)"));
+        comparison.require(known, || format!("{name} of a header is not compared (harness/c/header.c, src/bin/evidence/header.rs)"));
     }
     let words = words(comparison);
     let figures = figures(comparison);

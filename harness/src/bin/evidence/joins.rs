@@ -5,7 +5,7 @@ use crate::parts::Part;
 use crate::sheets::{lent, try_call};
 use crate::writes::{bytes, lent_page};
 use harness::boundary::{Call, Lent, Memory, LIBRARY};
-use harness::model;
+use harness::model::Reader;
 use harness::pairs;
 use harness::random::Random;
 use harness::sheets::Draft;
@@ -19,7 +19,7 @@ pub fn run(random: &mut Random, comparison: &mut Comparison) {
     }
     comparison.part = Part::Calls;
     let [first, second] = pairs::any(random);
-    match (model::read(&first), model::read(&second)) {
+    match (Reader::STATION.read(&first), Reader::STATION.read(&second)) {
         (Err(number), _) => comparison.unjoined[0][number as usize] += 1,
         (_, Err(number)) => comparison.unjoined[1][number as usize] += 1,
         _ => {}

@@ -155,7 +155,7 @@ fn asked(comparison: &mut Comparison, sheet: &[u8], list: &[i64], runner: Runner
     let before = Lent { list: list.to_vec(), words: runner.to_vec(), place: vec![i64::MAX; 3], next: vec![77], ..Lent::default() };
     [Call::PlaceOfRunner { runner }, Call::Step, Call::Back, Call::Round { turn: 0 }].map(|call| {
         comparison.compare_wrapper(&call, sheet, &before);
-        comparison.compare(&call, sheet, &before)
+        comparison.compare_both(&call, sheet, &before)
     })
 }
 

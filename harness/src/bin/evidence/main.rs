@@ -4,6 +4,7 @@
 //! Prints its seed and what each part compared. Ends with status 1 where anything differs, a distance is not within its limit, a
 //! refusal was never reached, or a part compared nothing.
 
+mod board;
 mod compare;
 mod distance;
 mod drawings;
@@ -79,6 +80,7 @@ fn main() {
     ticks::run(&options, &mut comparison);
     walks::run(&options, &mut comparison);
     laps::run(&options, &mut comparison);
+    board::run(&options, &mut comparison);
     rounds::run(&options, &mut comparison);
     strokes::run(&options, &mut comparison);
     years::run(&options, &mut comparison);

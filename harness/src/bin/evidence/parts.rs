@@ -6,11 +6,11 @@
 pub enum Part {
     /// The figures of group W.
     Worked,
-    /// The numbers and words of include/station.h.
+    /// The numbers and words of include/station.h, the sizes of include/board.h.
     Header,
     /// Every call of the library on random, boundary and damaged sheets.
     Calls,
-    /// The header's functions over structs on some of the same calls.
+    /// The headers' functions over structs on some of the same calls.
     Structs,
     /// The C files of the benchmark on them.
     CFiles,
@@ -52,6 +52,8 @@ pub enum Part {
     Walks,
     /// Laps from none and about the most, step by step and back, and any laps in every call that tests them (M10, N11, N15).
     Laps,
+    /// Sheets around 48 and around 512 waypoints, asked of the board and of the station (B2, B3, B5).
+    Board,
     /// Fleets of 1 to 33 seats flown round after round, each seat against a runner of its own (Q2 to Q6).
     Rounds,
     /// Strokes of the library at every tick of their courses, and every cut (H4 to H7).
@@ -61,7 +63,7 @@ pub enum Part {
 }
 
 /// The parts' names, in the order above.
-pub const NAMES: [&str; 27] = [
+pub const NAMES: [&str; 28] = [
     "worked",
     "header",
     "calls",
@@ -86,6 +88,7 @@ pub const NAMES: [&str; 27] = [
     "open-ends",
     "walks",
     "laps",
+    "board",
     "rounds",
     "strokes",
     "on-foot",

@@ -3,12 +3,13 @@
 use crate::compare::{Comparison, ALL};
 use crate::parts::Part;
 use crate::{drawings, fleets, joins, mirrors, writes, Options};
-use harness::boundary::{Call, Lent, NAMES, TESTS};
+use harness::boundary::{Call, Lent, NAMES, STATION_CALLS, TESTS};
 use harness::fence::Stand;
 use harness::lists;
-use harness::model::{self, Course, Kind, Runner, WORDS};
+use harness::model::{Course, Kind, Reader, Runner, WORDS};
 use harness::random::Random;
 use harness::sheets;
+use std::ops::Range;
 
 pub fn run(options: &Options, comparison: &mut Comparison) {
     // these sheets have to reach every number themselves, whatever the worked ones reached
@@ -48,7 +49,7 @@ fn one_sheet(random: &mut Random, comparison: &mut Comparison, of_kind: &mut [u6
         4..=6 => sheets::at_edges(random),
         _ => sheets::damaged(random),
     };
-    let (lists, accepted) = match model::read(&sheet) {
+    let (lists, accepted) = match Reader::STATION.read(&sheet) {
         Ok(course) => {
             of_kind[course.kind as usize] += 1;
             on_accepted(random, comparison, &sheet, &course);
@@ -84,10 +85,17 @@ pub fn room(random: &mut Random, needed: usize) -> usize {
     }
 }
 
+/// One call, and on every second sheet the same of the board; now and then by the wrapper. What the call itself leaves.
 pub fn try_call(random: &mut Random, comparison: &mut Comparison, call: Call, sheet: &[u8], before: &Lent) -> Lent {
     let (_, after) = comparison.compare(&call, sheet, before);
+    let on_board = call.on_board().filter(|_| comparison.case % 2 == 0);
+    if let Some(call) = &on_board {
+        comparison.compare(call, sheet, before);
+    }
     if random.once_in(8) {
-        comparison.compare_wrapper(&call, sheet, before);
+        for call in on_board.iter().chain([&call]) {
+            comparison.compare_wrapper(call, sheet, before);
+        }
     }
     after
 }
@@ -251,14 +259,21 @@ pub fn runner(random: &mut Random, course: &Course) -> Runner {
     [leg as u64, offset, laps]
 }
 
+/// How often each call of a range gave each number.
+fn print_answers(comparison: &Comparison, of: &str, calls: Range<usize>) {
+    let names: String = NAMES[calls.clone()].iter().map(|name| format!("{:>16}", name.trim_start_matches("board_"))).collect();
+    println!("{of:<22}{names}");
+    for (number, word) in WORDS.iter().enumerate() {
+        let counts: String = comparison.answers[calls.clone()].iter().map(|counts| format!("{:>16}", counts[number])).collect();
+        println!("  {number:>6} {:>14}{counts}", if number == 0 { "done" } else { word });
+    }
+}
+
 /// Prints how often each call gave each number. In a run of some size each number that a call tests must have been reached, by a joining 1
 /// to 8 for either sheet; no other may.
 fn coverage(comparison: &mut Comparison, all: bool) {
-    println!("answers: {:>12} {}", "", NAMES.map(|name| format!("{name:>16}")).join(""));
-    for (number, word) in WORDS.iter().enumerate() {
-        let counts: String = comparison.answers.iter().map(|counts| format!("{:>16}", counts[number])).collect();
-        println!("  {number:>6} {:>14} {counts}", if number == 0 { "done" } else { word });
-    }
+    print_answers(comparison, "answers:", 0..STATION_CALLS);
+    print_answers(comparison, "answers of the board:", STATION_CALLS..NAMES.len());
     println!("  {} of these calls were done but lacked room for the results", comparison.without_room);
     if !all {
         println!("  (with fewer than 10,000 cases not every number has to be reached)");

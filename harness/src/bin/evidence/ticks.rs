@@ -1,24 +1,26 @@
 //! Ticks at every leg of courses with 1 to 512 legs (P3, P4, P7): the library's runners, and some of its places, against the model, and both
-//! against legs, offsets and laps that are counted here, with the start of each leg summed anew; on mixed legs the careful C as well.
+//! against legs, offsets and laps that are counted here, with the start of each leg summed anew, as are the board's runners up to its limit;
+//! on mixed legs the careful C as well.
 
 use crate::compare::{hex, Comparison};
 use crate::parts::Part;
 use crate::Options;
 use harness::boundary::{Call, Calls, Memory, CAREFUL, LIBRARY};
-use harness::model::{Course, Runner, MOST_POINTS, PAST};
+use harness::model::{Course, Reader, Runner, BOARD, MOST_POINTS, PAST};
 use harness::random::Random;
 use harness::sheets::{self, CLOSED, FREE, HELD};
 
 /// A tick with the runner that it names; none where the course has no such tick.
 type Counted = (u64, Option<Runner>);
 
-/// What was tried, and how many of the runners were refused.
+/// What was tried, how many of the runners were refused, and how many the board found.
 #[derive(Default)]
 struct Made {
     sheets: u64,
     runners: u64,
     places: u64,
     past: u64,
+    board: u64,
 }
 
 /// A course, and any bend numbers that are not refused.
@@ -45,12 +47,15 @@ pub fn run(options: &Options, comparison: &mut Comparison) {
             }
         }
     }
-    let Made { sheets, runners, places, past } = made;
+    let Made { sheets, runners, places, past, board } = made;
     comparison.part = Part::Ticks;
-    comparison.require(past > 0 && past < runners && places > 0, || format!("{runners} runners, {past} of them past, {places} places"));
+    comparison.require(past > 0 && past < runners && places > 0 && board > 0, || {
+        format!("{runners} runners, {past} of them past, {board} of the board, {places} places")
+    });
     println!(
         "ticks: {sheets} sheets with 1 to {most}, 511 and 512 legs, at every leg its start, its last tick and one between, and the ends, on \
-         closed ones also a lap later and in the last laps of 64 bits: {runners} runners compared, {past} of them past, and {places} places"
+         closed ones also a lap later and in the last laps of 64 bits: {runners} runners compared, {past} of them past, \
+         {board} found by the board too, and {places} places"
     );
 }
 
@@ -83,26 +88,34 @@ impl Tried {
     }
 
     /// What a runner from a tick answers and leaves.
-    fn asked(&self, calls: &Calls, tick: u64) -> (u64, Runner) {
+    fn asked(&self, calls: &Calls, call: &Call) -> (u64, Runner) {
         let mut words = UNTOUCHED;
-        let answer = Call::RunnerAtTick { tick }.by(calls, Memory { sheet: &self.sheet, words: &mut words, ..Memory::default() });
+        let answer = call.by(calls, Memory { sheet: &self.sheet, words: &mut words, ..Memory::default() });
         (answer, words)
     }
 
     /// The library's runner, and the model's, against the counted one.
     fn runner(&self, comparison: &mut Comparison, made: &mut Made, (tick, named): Counted) {
-        let (got, wanted) = (self.asked(&LIBRARY, tick), answered(named));
+        let call = Call::RunnerAtTick { tick };
+        let (got, wanted) = (self.asked(&LIBRARY, &call), answered(named));
         let model = self.course.runner(tick);
         comparison.require(got == wanted && model == named, || {
             format!("at tick {tick}: {got:?}, model {model:?}, counted {named:?}\n  sheet {}", hex(&self.sheet))
         });
         made.runners += 1;
         made.past += u64::from(got.0 == PAST);
+        let Some(call) = call.on_board() else { return };
+        let on_board = self.asked(&LIBRARY, &call);
+        let wanted = if self.course.n > Reader::BOARD.most { (BOARD, UNTOUCHED) } else { wanted };
+        comparison.require(on_board == wanted, || {
+            format!("on the board at tick {tick}: {on_board:?}, not {wanted:?}\n  sheet {}", hex(&self.sheet))
+        });
+        made.board += u64::from(on_board.0 == 0);
     }
 
     /// The careful C's runner against the counted one.
     fn runner_in_c(&self, comparison: &mut Comparison, (tick, named): Counted) {
-        let (got, wanted) = (self.asked(&CAREFUL, tick), answered(named));
+        let (got, wanted) = (self.asked(&CAREFUL, &Call::RunnerAtTick { tick }), answered(named));
         comparison.tally.check(Part::CFiles, got == wanted, || {
             format!("{} at tick {tick}: {got:?}, counted {named:?}\n  sheet {}", CAREFUL.name, hex(&self.sheet))
         });

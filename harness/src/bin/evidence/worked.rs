@@ -1,5 +1,7 @@
-//! The figures of group W, typed here by hand: model, library, C files and wrapper are held to them. Those for runners are in runners.rs.
+//! The figures of group W, typed here by hand: model, library, C files and wrapper are held to them. Those for runners
+//! are in runners.rs, those for the board in board.rs.
 
+mod board;
 mod runners;
 
 use crate::compare::Comparison;
@@ -98,7 +100,7 @@ fn expect(
     wanted: String,
     left: impl Fn(u64, &Lent) -> String,
 ) -> Lent {
-    let (answer, after) = comparison.compare(call, sheet, before);
+    let (answer, after) = comparison.compare_both(call, sheet, before);
     comparison.compare_wrapper(call, sheet, before);
     let got = left(answer, &after);
     comparison.require(got == wanted, || format!("{call:?} has to be {wanted}, the model has {got}"));
@@ -139,6 +141,7 @@ pub fn run(comparison: &mut Comparison) {
     writing(comparison);
     joining(comparison);
     runners::run(comparison);
+    board::run(comparison);
     strokes_kept_and_cut(comparison);
     strokes_refused(comparison);
     println!("worked courses: {} comparisons with the figures of group W", comparison.tally.compared(Part::Worked));

@@ -2,11 +2,37 @@
 
 use harness::model::Lists;
 pub use harness::station::Refusal;
-use harness::station::{self, EndKind, Fleet, Runner};
+use harness::station::{self, board, Course, EndKind, Fleet, Runner};
+
+/// The six calls that station and board both have.
+pub struct Six {
+    pub read: fn(&[u8]) -> Result<[u64; 3], Refusal>,
+    pub lay_out: fn(&[u8], &mut [i64]) -> Result<(), Refusal>,
+    pub place_at_tick: fn(&[u8], &[i64], u64) -> Result<[i64; 3], Refusal>,
+    pub place_of_runner: fn(&[u8], &[i64], [u64; 3]) -> Result<[i64; 3], Refusal>,
+    pub runner_at_tick: fn(&[u8], u64) -> Result<[u64; 3], Refusal>,
+    pub step: fn(&[u8], &mut [u64; 3]) -> Result<(), Refusal>,
+}
+
+pub const STATION: Six = Six { read, lay_out, place_at_tick, place_of_runner, runner_at_tick, step };
+
+pub const BOARD: Six = Six {
+    read: |sheet| board::read(sheet).map(fields),
+    lay_out: board::lay_out,
+    place_at_tick: |sheet, list, tick| board::place_at_tick(sheet, list, tick).map(Into::into),
+    place_of_runner: |sheet, list, runner| board::place_of_runner(sheet, list, typed(runner)).map(Into::into),
+    runner_at_tick: |sheet, tick| board::runner_at_tick(sheet, tick).map(|runner| plain(&runner)),
+    step: |sheet, runner| moved(sheet, runner, board::step),
+};
+
+/// Kind, N, P of a course.
+fn fields(course: Course) -> [u64; 3] {
+    [course.kind as u64, course.waypoints as u64, course.ticks]
+}
 
 /// Kind, N, P.
 pub fn read(sheet: &[u8]) -> Result<[u64; 3], Refusal> {
-    station::read(sheet).map(|course| [course.kind as u64, course.waypoints as u64, course.ticks])
+    station::read(sheet).map(fields)
 }
 
 pub fn lay_out(sheet: &[u8], list: &mut [i64]) -> Result<(), Refusal> {
@@ -38,20 +64,22 @@ pub fn runner_at_tick(sheet: &[u8], tick: u64) -> Result<[u64; 3], Refusal> {
     station::runner_at_tick(sheet, tick).map(|runner| plain(&runner))
 }
 
-/// Leg, offset and laps, moved on in place.
-pub fn step(sheet: &[u8], runner: &mut [u64; 3]) -> Result<(), Refusal> {
+/// Leg, offset and laps, moved in place by one of the wrapper's functions.
+fn moved(sheet: &[u8], runner: &mut [u64; 3], by: impl Fn(&[u8], &mut Runner) -> Result<(), Refusal>) -> Result<(), Refusal> {
     let mut moved = typed(*runner);
-    let answer = station::step(sheet, &mut moved);
+    let answer = by(sheet, &mut moved);
     *runner = plain(&moved);
     answer
 }
 
-/// Leg, offset and laps, moved back in place.
+/// Moved on.
+pub fn step(sheet: &[u8], runner: &mut [u64; 3]) -> Result<(), Refusal> {
+    moved(sheet, runner, station::step)
+}
+
+/// Moved back.
 pub fn back(sheet: &[u8], runner: &mut [u64; 3]) -> Result<(), Refusal> {
-    let mut moved = typed(*runner);
-    let answer = station::back(sheet, &mut moved);
-    *runner = plain(&moved);
-    answer
+    moved(sheet, runner, station::back)
 }
 
 /// North, east, up; the fleet, leg, offset and laps of each seat in turn, and the turn are moved on in place.

@@ -90,7 +90,7 @@ fn far_ticks(options: &Options, comparison: &mut Comparison, random: &mut Random
     let Some(course) = comparison.course(sheet) else { return };
     let ticks = course.ticks() as u64;
     let before = Lent { list: vec![0; 3 * course.n], words: vec![1; 3], place: vec![1; 3], ..Lent::default() };
-    let (_, laid_out) = comparison.compare(&Call::LayOut, sheet, &before);
+    let (_, laid_out) = comparison.compare_both(&Call::LayOut, sheet, &before);
     for case in 0..(options.cases / 100).max(10) {
         comparison.case = case;
         let tick = match random.below(4) {
@@ -98,11 +98,11 @@ fn far_ticks(options: &Options, comparison: &mut Comparison, random: &mut Random
             1 => random.any_size(),
             _ => random.below(TEN_YEARS as usize) as u64,
         };
-        let place = comparison.compare(&Call::PlaceAtTick { tick }, sheet, &laid_out);
-        let runner = comparison.compare(&Call::RunnerAtTick { tick }, sheet, &laid_out);
-        let near = comparison.compare(&Call::PlaceAtTick { tick: tick % ticks }, sheet, &laid_out);
+        let place = comparison.compare_both(&Call::PlaceAtTick { tick }, sheet, &laid_out);
+        let runner = comparison.compare_both(&Call::RunnerAtTick { tick }, sheet, &laid_out);
+        let near = comparison.compare_both(&Call::PlaceAtTick { tick: tick % ticks }, sheet, &laid_out);
         let runner = [0, 1, 2].map(|number| runner.1.words[number]);
-        let by_runner = comparison.compare(&Call::PlaceOfRunner { runner }, sheet, &laid_out);
+        let by_runner = comparison.compare_both(&Call::PlaceOfRunner { runner }, sheet, &laid_out);
         comparison.require(place.0 == 0 && place == near && place == by_runner, || {
             format!("tick {tick}: {place:?}, modulo P {near:?}, by runner {by_runner:?}")
         });
