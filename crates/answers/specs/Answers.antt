@@ -12,18 +12,18 @@ abbrev pub done : Told
 done = record { number = 0; values = [] }
 
 -- the number and values of each outcome
-abbrev pub toldOutcome : Outcome → Told
-toldOutcome Done = done
-toldOutcome (Refused r) = refused r
+abbrev pub told_outcome : Outcome → Told
+told_outcome Done = done
+told_outcome (Refused r) = refused r
 
 -- a call's number without its values: what a step over a lent record answers (A7)
 abbrev pub bare : Told → Told
 bare t = record { number = t.number; values = [] }
 
 -- A8: reading's refusal is the call's
-abbrev pub passOn : Reading → Told → Told
-passOn (R.Refused r) rest = refused r
-passOn (R.Course k n p) rest = rest
+abbrev pub pass_on : Reading → Told → Told
+pass_on (R.Refused r) rest = refused r
+pass_on (R.Course k n p) rest = rest
 
 -- the refusal where its test applies, and otherwise the rest
 abbrev pub guard : Bool → Refusal → Told → Told

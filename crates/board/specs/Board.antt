@@ -2,5 +2,5 @@
 use Rattle.std.specs.Prelude.{ℕ}
 
 -- the largest N that it has memory for
-abbrev pub boardPoints : ℕ
-boardPoints = 48
+abbrev pub board_points : ℕ
+board_points = 48

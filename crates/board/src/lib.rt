@@ -5,12 +5,12 @@ mod calls;
 ghost use Rattle.std.specs.Prelude.{◌≡◌, length};
 ghost use Rattle.sheet.specs.Answers.{told};
 ghost use Rattle.sheet.specs.Reading.{read_by};
-ghost use Rattle.layout.specs.Layout.{layOutBy, laidOutBy};
-ghost use Rattle.runner.specs.Ticks.{runner, atLap, runnerAtTickBy};
-ghost use Rattle.runner.specs.Steps.{steppedBy};
-ghost use Rattle.place.specs.Places.{placeAtTickBy, placeOfRunnerBy};
-ghost use Rattle.boundary.specs.Written.{written, writtenUnsigned, movedSlice};
-ghost use Rattle.board.specs.Board.{boardPoints};
+ghost use Rattle.layout.specs.Layout.{lay_out_by, laid_out_by};
+ghost use Rattle.runner.specs.Ticks.{runner, at_lap, runner_at_tick_by};
+ghost use Rattle.runner.specs.Steps.{stepped_by};
+ghost use Rattle.place.specs.Places.{place_at_tick_by, place_of_runner_by};
+ghost use Rattle.boundary.specs.Written.{written, written_unsigned, moved_slice};
+ghost use Rattle.board.specs.Board.{board_points};
 
 pub use calls::{lay_out, place_at_tick, place_of_runner, read, runner_at_tick, step, stepped};
 
@@ -19,7 +19,7 @@ pub const BOARD_POINTS: usize = 48;
 
 // Holds the constant against the definition; nothing calls it.
 fn board_points() -> usize
-    ensures { result ≡ boardPoints }
+    ensures { result ≡ board_points }
 {
     BOARD_POINTS
 }
@@ -27,16 +27,16 @@ fn board_points() -> usize
 // out = kind, N, P
 #[unsafe(no_mangle)]
 pub extern "C" fn board_read(sheet: &[u8], out: &mut [u64]) -> u64
-    ensures answer { result ≡ (told (read_by boardPoints sheet.now)).number }
-    ensures out { out.new ≡ writtenUnsigned (told (read_by boardPoints sheet.now)) out.old }
+    ensures answer { result ≡ (told (read_by board_points sheet.now)).number }
+    ensures out { out.new ≡ written_unsigned (told (read_by board_points sheet.now)) out.old }
 {
     boundary::read(BOARD_POINTS, sheet, out)
 }
 
 #[unsafe(no_mangle)]
 pub extern "C" fn board_lay_out(sheet: &[u8], list: &mut [i64]) -> u64
-    ensures answer { result ≡ (layOutBy boardPoints sheet.now (length list.old)).number }
-    ensures list { list.new ≡ laidOutBy boardPoints sheet.now list.old }
+    ensures answer { result ≡ (lay_out_by board_points sheet.now (length list.old)).number }
+    ensures list { list.new ≡ laid_out_by board_points sheet.now list.old }
 {
     boundary::lay_out(BOARD_POINTS, sheet, list)
 }
@@ -44,8 +44,8 @@ pub extern "C" fn board_lay_out(sheet: &[u8], list: &mut [i64]) -> u64
 // out = north, east, up
 #[unsafe(no_mangle)]
 pub extern "C" fn board_place_at_tick(sheet: &[u8], list: &[i64], tick: u64, out: &mut [i64]) -> u64
-    ensures answer { result ≡ (placeAtTickBy boardPoints sheet.now list.now tick).number }
-    ensures out { out.new ≡ written (placeAtTickBy boardPoints sheet.now list.now tick) out.old }
+    ensures answer { result ≡ (place_at_tick_by board_points sheet.now list.now tick).number }
+    ensures out { out.new ≡ written (place_at_tick_by board_points sheet.now list.now tick) out.old }
 {
     boundary::place_at_tick(BOARD_POINTS, sheet, list, tick, out)
 }
@@ -60,8 +60,8 @@ pub extern "C" fn board_place_of_runner(
     laps: u64,
     out: &mut [i64],
 ) -> u64
-    ensures answer { result ≡ (placeOfRunnerBy boardPoints sheet.now list.now (atLap laps (runner leg offset))).number }
-    ensures out { out.new ≡ written (placeOfRunnerBy boardPoints sheet.now list.now (atLap laps (runner leg offset))) out.old }
+    ensures answer { result ≡ (place_of_runner_by board_points sheet.now list.now (at_lap laps (runner leg offset))).number }
+    ensures out { out.new ≡ written (place_of_runner_by board_points sheet.now list.now (at_lap laps (runner leg offset))) out.old }
 {
     boundary::place_of_runner(BOARD_POINTS, sheet, list, leg, offset, laps, out)
 }
@@ -69,8 +69,8 @@ pub extern "C" fn board_place_of_runner(
 // out = leg, offset, laps
 #[unsafe(no_mangle)]
 pub extern "C" fn board_runner_at_tick(sheet: &[u8], tick: u64, out: &mut [u64]) -> u64
-    ensures answer { result ≡ (runnerAtTickBy boardPoints sheet.now tick).number }
-    ensures out { out.new ≡ writtenUnsigned (runnerAtTickBy boardPoints sheet.now tick) out.old }
+    ensures answer { result ≡ (runner_at_tick_by board_points sheet.now tick).number }
+    ensures out { out.new ≡ written_unsigned (runner_at_tick_by board_points sheet.now tick) out.old }
 {
     boundary::runner_at_tick(BOARD_POINTS, sheet, tick, out)
 }
@@ -78,8 +78,8 @@ pub extern "C" fn board_runner_at_tick(sheet: &[u8], tick: u64, out: &mut [u64])
 // lent = leg, offset, laps, moved on in place
 #[unsafe(no_mangle)]
 pub extern "C" fn board_step(sheet: &[u8], lent: &mut [u64]) -> u64
-    ensures answer { result ≡ (movedSlice boardPoints (steppedBy boardPoints) sheet.now lent.old).number }
-    ensures lent { lent.new ≡ writtenUnsigned (movedSlice boardPoints (steppedBy boardPoints) sheet.now lent.old) lent.old }
+    ensures answer { result ≡ (moved_slice board_points (stepped_by board_points) sheet.now lent.old).number }
+    ensures lent { lent.new ≡ written_unsigned (moved_slice board_points (stepped_by board_points) sheet.now lent.old) lent.old }
 {
     boundary::step(BOARD_POINTS, sheet, lent)
 }

@@ -6,32 +6,32 @@ use Prim.Native.Nat.{ℕ, ◌≤◌, ◌<◌}
 use borrow.Author.Tests.{le-leb, lt-leb}
 use lib.ListN.{length}
 use Rattle.sheet.specs.Answers.{Told}
-use Rattle.sheet.specs.Bytes.{be16, be32, signed32, anyBelow, sumBelow}
-use Rattle.sheet.specs.Reading.{mostPoints, read_by}
-use Rattle.runner.specs.Steps.{offLegs, adrift, stepped}
-use Rattle.runner.specs.Backs.{movedBack, backed}
-use Rattle.runner.specs.Worked.{sheetA}
+use Rattle.sheet.specs.Bytes.{be16, be32, signed32, any_below, sum_below}
+use Rattle.sheet.specs.Reading.{most_points, read_by}
+use Rattle.runner.specs.Steps.{off_legs, adrift, stepped}
+use Rattle.runner.specs.Backs.{moved_back, backed}
+use Rattle.runner.specs.Worked.{sheet_a}
 use Rattle.runner.specs.declared.Runner.{Runner}
-use Rattle.boundary.specs.Written.{noRunner, lentRunner, movedSlice}
+use Rattle.boundary.specs.Written.{no_runner, lent_runner, moved_slice}
 
 -- tried: no runner on course A is 11, not the 15 that back says where no tick is flown
-runner-first : (movedSlice mostPoints backed sheetA []).number ≡ 11
-unfolding movedSlice be16 be32 signed32 anyBelow sumBelow read_by offLegs adrift movedBack backed
-runner-first = refl
+runner_first : (moved_slice most_points backed sheet_a []).number ≡ 11
+unfolding moved_slice be16 be32 signed32 any_below sum_below read_by off_legs adrift moved_back backed
+runner_first = refl
 
 -- tried: no sheet and no runner is number 1, torn, before it is 11
-sheet-first : (movedSlice mostPoints stepped [] []).number ≡ 1
-unfolding movedSlice read_by
-sheet-first = refl
+sheet_first : (moved_slice most_points stepped [] []).number ≡ 1
+unfolding moved_slice read_by
+sheet_first = refl
 
 module _ (limit : ℕ) (call : List ℕ → Runner → Told) (s r : List ℕ) where
   abbrev lent : Bool → Told
-  lent b = cond b (call s (lentRunner r)) (noRunner limit s)
+  lent b = cond b (call s (lent_runner r)) (no_runner limit s)
 
-  pub runner-lent : 3 ≤ length r → call s (lentRunner r) ≡ movedSlice limit call s r
-  unfolding movedSlice
-  runner-lent h = sym (ap lent (le-leb 3 (length r) h))
+  pub runner_lent : 3 ≤ length r → call s (lent_runner r) ≡ moved_slice limit call s r
+  unfolding moved_slice
+  runner_lent h = sym (ap lent (le-leb 3 (length r) h))
 
-  pub none_lent : length r < 3 → noRunner limit s ≡ movedSlice limit call s r
-  unfolding movedSlice
+  pub none_lent : length r < 3 → no_runner limit s ≡ moved_slice limit call s r
+  unfolding moved_slice
   none_lent h = sym (ap lent (lt-leb 3 (length r) h))

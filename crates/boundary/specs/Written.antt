@@ -3,8 +3,8 @@ use Rattle.std.specs.Prelude.{cond, List, ◌++◌, map, ℕ, eqb, leb, ℤ, nat
 use Rattle.sheet.specs.Answers.{Told, refused}
 use Rattle.sheet.specs.Reading.{read_by}
 use Rattle.sheet.specs.declared.Refusal.TheVariants.{Adrift}
-use Rattle.answers.specs.Answers.{passOn}
-use Rattle.runner.specs.Ticks.{runner, atLap}
+use Rattle.answers.specs.Answers.{pass_on}
+use Rattle.runner.specs.Ticks.{runner, at_lap}
 use Rattle.runner.specs.declared.Runner.{Runner}
 
 -- the values at the front of the slice where it has room for them, and the slice as it was where it has not; the rest is kept
@@ -25,16 +25,16 @@ written_by g t out = cond (eqb t.number 0) (put (g t.values) out) out
 abbrev pub written : Told → List ℤ → List ℤ
 written = written_by signed
 
-abbrev pub writtenUnsigned : Told → List ℕ → List ℕ
-writtenUnsigned = written_by unsigned
+abbrev pub written_unsigned : Told → List ℕ → List ℕ
+written_unsigned = written_by unsigned
 
 -- A1, A8: without a runner step and back answer the sheet's refusal, and otherwise adrift
-abbrev pub noRunner : ℕ → List ℕ → Told
-noRunner limit s = passOn (read_by limit s) (refused Adrift)
+abbrev pub no_runner : ℕ → List ℕ → Told
+no_runner limit s = pass_on (read_by limit s) (refused Adrift)
 
 -- a lent runner is three numbers, leg, offset and laps; a shorter slice holds none. `call` is step or back by value, with the same limit
-abbrev pub lentRunner : List ℕ → Runner
-lentRunner r = atLap (get_or r 2 0) (runner (get_or r 0 0) (get_or r 1 0))
+abbrev pub lent_runner : List ℕ → Runner
+lent_runner r = at_lap (get_or r 2 0) (runner (get_or r 0 0) (get_or r 1 0))
 
-unfoldable pub movedSlice : ℕ → (List ℕ → Runner → Told) → List ℕ → List ℕ → Told
-movedSlice limit call s r = cond (leb 3 (length r)) (call s (lentRunner r)) (noRunner limit s)
+unfoldable pub moved_slice : ℕ → (List ℕ → Runner → Told) → List ℕ → List ℕ → Told
+moved_slice limit call s r = cond (leb 3 (length r)) (call s (lent_runner r)) (no_runner limit s)

@@ -1,14 +1,14 @@
 // What the C boundaries of station and board share (exports, board): their calls on numbers and slices, with the largest N as first argument. Each function answers 0
 // or a number of group N, and writes its results only when it answers 0 and the lent slice has room for them.
 ghost use Rattle.std.specs.Prelude.{◌≡◌, [], ◌∷◌, length};
-ghost use Rattle.ends.specs.Ends.{kindNumber};
+ghost use Rattle.ends.specs.Ends.{kind_number};
 ghost use Rattle.sheet.specs.Answers.{told};
 ghost use Rattle.sheet.specs.Reading.{read_by};
-ghost use Rattle.layout.specs.Layout.{layOutBy, laidOutBy};
-ghost use Rattle.runner.specs.Ticks.{runner, atLap, toldRunner, runnerAtTickBy};
-ghost use Rattle.runner.specs.Steps.{steppedBy};
-ghost use Rattle.place.specs.Places.{toldPlaced, placeAtTickBy, placeOfRunnerBy};
-ghost use Rattle.boundary.specs.Written.{put, written, writtenUnsigned, noRunner, movedSlice};
+ghost use Rattle.layout.specs.Layout.{lay_out_by, laid_out_by};
+ghost use Rattle.runner.specs.Ticks.{runner, at_lap, told_runner, runner_at_tick_by};
+ghost use Rattle.runner.specs.Steps.{stepped_by};
+ghost use Rattle.place.specs.Places.{told_placed, place_at_tick_by, place_of_runner_by};
+ghost use Rattle.boundary.specs.Written.{put, written, written_unsigned, no_runner, moved_slice};
 
 use answers::Outcome;
 use ends::EndKind;
@@ -18,7 +18,7 @@ use sheet::{Reading, Refusal, number_of};
 
 // S4: the number of a kind.
 fn kind_number(kind: EndKind) -> u64
-    ensures { result ≡ kindNumber kind }
+    ensures { result ≡ kind_number kind }
 {
     match kind {
         EndKind::Free => 0,
@@ -51,7 +51,7 @@ fn put_place(out: &mut [i64], a: i64, b: i64, c: i64)
 // out = kind, N, P
 pub fn read(limit: usize, sheet: &[u8], out: &mut [u64]) -> u64
     ensures answer { result ≡ (told (read_by limit sheet.now)).number }
-    ensures out { out.new ≡ writtenUnsigned (told (read_by limit sheet.now)) out.old }
+    ensures out { out.new ≡ written_unsigned (told (read_by limit sheet.now)) out.old }
 {
     match sheet::read_by(limit, sheet) {
         Reading::Course {
@@ -67,8 +67,8 @@ pub fn read(limit: usize, sheet: &[u8], out: &mut [u64]) -> u64
 }
 
 pub fn lay_out(limit: usize, sheet: &[u8], list: &mut [i64]) -> u64
-    ensures answer { result ≡ (layOutBy limit sheet.now (length list.old)).number }
-    ensures list { list.new ≡ laidOutBy limit sheet.now list.old }
+    ensures answer { result ≡ (lay_out_by limit sheet.now (length list.old)).number }
+    ensures list { list.new ≡ laid_out_by limit sheet.now list.old }
 {
     match layout::lay_out_by(limit, sheet, list) {
         Outcome::Done => 0,
@@ -78,8 +78,8 @@ pub fn lay_out(limit: usize, sheet: &[u8], list: &mut [i64]) -> u64
 
 // The place into the slice, or the refusal's number.
 pub fn tell_place(answer: Placed, out: &mut [i64]) -> u64
-    ensures answer { result ≡ (toldPlaced answer).number }
-    ensures out { out.new ≡ written (toldPlaced answer) out.old }
+    ensures answer { result ≡ (told_placed answer).number }
+    ensures out { out.new ≡ written (told_placed answer) out.old }
 {
     let outcome = answer.outcome;
     let place = answer.place;
@@ -95,8 +95,8 @@ pub fn tell_place(answer: Placed, out: &mut [i64]) -> u64
 
 // out = north, east, up
 pub fn place_at_tick(limit: usize, sheet: &[u8], list: &[i64], tick: u64, out: &mut [i64]) -> u64
-    ensures answer { result ≡ (placeAtTickBy limit sheet.now list.now tick).number }
-    ensures out { out.new ≡ written (placeAtTickBy limit sheet.now list.now tick) out.old }
+    ensures answer { result ≡ (place_at_tick_by limit sheet.now list.now tick).number }
+    ensures out { out.new ≡ written (place_at_tick_by limit sheet.now list.now tick) out.old }
 {
     let answer = place::place_at_tick_by(limit, sheet, list, tick);
     tell_place(answer, out)
@@ -112,8 +112,8 @@ pub fn place_of_runner(
     laps: u64,
     out: &mut [i64],
 ) -> u64
-    ensures answer { result ≡ (placeOfRunnerBy limit sheet.now list.now (atLap laps (runner leg offset))).number }
-    ensures out { out.new ≡ written (placeOfRunnerBy limit sheet.now list.now (atLap laps (runner leg offset))) out.old }
+    ensures answer { result ≡ (place_of_runner_by limit sheet.now list.now (at_lap laps (runner leg offset))).number }
+    ensures out { out.new ≡ written (place_of_runner_by limit sheet.now list.now (at_lap laps (runner leg offset))) out.old }
 {
     let at = Runner { leg, offset, laps };
     tell_place(place::place_of_runner_by(limit, sheet, list, at), out)
@@ -121,8 +121,8 @@ pub fn place_of_runner(
 
 // The runner into the slice, or the refusal's number.
 pub fn tell_runner(answer: RunnerAnswer, out: &mut [u64]) -> u64
-    ensures answer { result ≡ (toldRunner answer).number }
-    ensures out { out.new ≡ writtenUnsigned (toldRunner answer) out.old }
+    ensures answer { result ≡ (told_runner answer).number }
+    ensures out { out.new ≡ written_unsigned (told_runner answer) out.old }
 {
     match answer {
         RunnerAnswer::At(at) => {
@@ -135,15 +135,15 @@ pub fn tell_runner(answer: RunnerAnswer, out: &mut [u64]) -> u64
 
 // out = leg, offset, laps
 pub fn runner_at_tick(limit: usize, sheet: &[u8], tick: u64, out: &mut [u64]) -> u64
-    ensures answer { result ≡ (runnerAtTickBy limit sheet.now tick).number }
-    ensures out { out.new ≡ writtenUnsigned (runnerAtTickBy limit sheet.now tick) out.old }
+    ensures answer { result ≡ (runner_at_tick_by limit sheet.now tick).number }
+    ensures out { out.new ≡ written_unsigned (runner_at_tick_by limit sheet.now tick) out.old }
 {
     tell_runner(runner::runner_at_tick_by(limit, sheet, tick), out)
 }
 
 // The answer of step and back where no runner is lent: the sheet's refusal, and otherwise adrift.
 pub fn no_runner(limit: usize, sheet: &[u8]) -> RunnerAnswer
-    ensures { toldRunner result ≡ noRunner limit sheet.now }
+    ensures { told_runner result ≡ no_runner limit sheet.now }
 {
     match sheet::read_by(limit, sheet) {
         Reading::Course {
@@ -157,8 +157,8 @@ pub fn no_runner(limit: usize, sheet: &[u8]) -> RunnerAnswer
 
 // lent = leg, offset, laps, moved on in place
 pub fn step(limit: usize, sheet: &[u8], lent: &mut [u64]) -> u64
-    ensures answer { result ≡ (movedSlice limit (steppedBy limit) sheet.now lent.old).number }
-    ensures lent { lent.new ≡ writtenUnsigned (movedSlice limit (steppedBy limit) sheet.now lent.old) lent.old }
+    ensures answer { result ≡ (moved_slice limit (stepped_by limit) sheet.now lent.old).number }
+    ensures lent { lent.new ≡ written_unsigned (moved_slice limit (stepped_by limit) sheet.now lent.old) lent.old }
 {
     if lent.len() < 3 {
         return tell_runner(no_runner(limit, sheet), lent);

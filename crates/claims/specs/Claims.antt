@@ -36,167 +36,167 @@ use Rattle.claims.specs.Refused.{RefusalPassedOn, RefusedKeepsList, RefusedKeeps
 -- D1: a bad input gets its number, and a refused call changes nothing. (That calls end and are safe is proved of every function, by the checker itself.)
 pub record Demand1 : Type 0 where
   -- A1, A2, A16: by a reader of whatever limit a sheet is read, or refused by the first number that applies
-  pub read-or-refused : ReadOrRefused
+  pub read_or_refused : ReadOrRefused
   -- A2, A10: what is read is accepted, and the answer is its fields
-  pub read-accepted : ReadAccepted
+  pub read_accepted : ReadAccepted
   -- N23: the sheets that the board refuses with it; the station none
-  pub board-refuses : BoardRefuses
-  pub never-at-station : NeverAtStation
+  pub board_refuses : BoardRefuses
+  pub never_at_station : NeverAtStation
   -- A8
-  pub refusal-passed-on : RefusalPassedOn
+  pub refusal_passed_on : RefusalPassedOn
   -- A9
-  pub refused-keeps-list : RefusedKeepsList
-  pub refused-keeps-record : RefusedKeepsRecord
-  pub refused-keeps-fleet : RefusedKeepsFleet
-  pub refused-keeps-ends : RefusedKeepsEnds
-  pub refused-keeps-slice : RefusedKeepsSlice
+  pub refused_keeps_list : RefusedKeepsList
+  pub refused_keeps_record : RefusedKeepsRecord
+  pub refused_keeps_fleet : RefusedKeepsFleet
+  pub refused_keeps_ends : RefusedKeepsEnds
+  pub refused_keeps_slice : RefusedKeepsSlice
 
 -- D2: rules to the last digit, waypoints met, runners where the count says
 pub record Demand2 : Type 0 where
   -- S9, N4 to N8: the bounds of an accepted sheet
-  pub accepted-bounds : AcceptedBounds
+  pub accepted_bounds : AcceptedBounds
   -- N7: the permit's heights
-  pub heights-kept : HeightsKept
+  pub heights_kept : HeightsKept
   pub longest : Longest
   -- N13, K7: landed is said at the last tick alone
-  pub step-before : StepBefore
+  pub step_before : StepBefore
   -- N15: start is said at the first tick alone
-  pub back-behind : BackBehind
+  pub back_behind : BackBehind
   -- N18: more than 513 waypoints of two sheets that meet are crowded
-  pub crowded-where-more : CrowdedWhereMore
+  pub crowded_where_more : CrowdedWhereMore
   -- N22, H5: a list of P + 1 places has room for all ends
-  pub room-for-all : RoomForAll
+  pub room_for_all : RoomForAll
   -- A4, A5: the place by tick is the place of the tick's runner
-  pub tick-is-runner : TickIsRunner
+  pub tick_is_runner : TickIsRunner
   -- A13: two sheets that meet, of no more than 513 waypoints, are joined where there is room
-  pub joined-where-few : JoinedWhereFew
+  pub joined_where_few : JoinedWhereFew
   -- R6
-  pub row-gap : RowGap
+  pub row_gap : RowGap
   -- L4: nearest, a half away from zero; and of the negated numerator
-  pub rounded-nearest : RoundedNearest
-  pub rounded-mirrored : RoundedMirrored
+  pub rounded_nearest : RoundedNearest
+  pub rounded_mirrored : RoundedMirrored
   -- L6
-  pub laid-out-near : LaidOutNear
+  pub laid_out_near : LaidOutNear
   -- L7, P6: mirrored sheets, and the steps to them
-  pub passes-mirrored : PassesMirrored
-  pub bends-mirrored : BendsMirrored
-  pub position-mirrored : PositionMirrored
-  pub sheet-mirrored : SheetMirrored
+  pub passes_mirrored : PassesMirrored
+  pub bends_mirrored : BendsMirrored
+  pub position_mirrored : PositionMirrored
+  pub sheet_mirrored : SheetMirrored
   -- P3, P4, M10
-  pub tick-stands : TickStands
+  pub tick_stands : TickStands
   -- P7
-  pub leg-by-sums : LegBySums
+  pub leg_by_sums : LegBySums
   -- P5
-  pub leg-ends-met : LegEndsMet
-  pub waypoint-met-at-tick : WaypointMetAtTick
-  pub waypoint-met-by-runner : WaypointMetByRunner
+  pub leg_ends_met : LegEndsMet
+  pub waypoint_met_at_tick : WaypointMetAtTick
+  pub waypoint_met_by_runner : WaypointMetByRunner
   -- M11: the ticks flown tell tick and laps, and no two runners have flown the same
-  pub flown-parts : FlownParts
-  pub one-runner : OneRunner
+  pub flown_parts : FlownParts
+  pub one_runner : OneRunner
   -- M4
-  pub closed-steps : ClosedSteps
-  pub closed-steps-on : ClosedStepsOn
+  pub closed_steps : ClosedSteps
+  pub closed_steps_on : ClosedStepsOn
   -- M5
-  pub open-steps : OpenSteps
+  pub open_steps : OpenSteps
   -- M7
-  pub back-tick : BackTick
-  pub back-ticks : BackTicks
+  pub back_tick : BackTick
+  pub back_ticks : BackTicks
   -- M8
-  pub back-after-step : BackAfterStep
-  pub back-after-kept : BackAfterKept
-  pub step-after-back : StepAfterBack
+  pub back_after_step : BackAfterStep
+  pub back_after_kept : BackAfterKept
+  pub step_after_back : StepAfterBack
   -- M9
-  pub backs-after-steps : BacksAfterSteps
-  pub steps-after-backs : StepsAfterBacks
+  pub backs_after_steps : BacksAfterSteps
+  pub steps_after_backs : StepsAfterBacks
   -- G5
-  pub written-accepted : WrittenAccepted
+  pub written_accepted : WrittenAccepted
   -- G6
-  pub written-again : WrittenAgain
+  pub written_again : WrittenAgain
   -- J1 to J3
-  pub joined-accepted : JoinedAccepted
+  pub joined_accepted : JoinedAccepted
   -- J4
-  pub joined-met : JoinedMet
+  pub joined_met : JoinedMet
   -- Q4
-  pub others-kept : OthersKept
-  pub seats-apart : SeatsApart
+  pub others_kept : OthersKept
+  pub seats_apart : SeatsApart
   -- Q5
-  pub every-seat-once : EverySeatOnce
+  pub every_seat_once : EverySeatOnce
   -- Q6
   pub turns_move : TurnsMove
   -- H1
-  pub places-given : PlacesGiven
+  pub places_given : PlacesGiven
   -- H3, H6
-  pub kept-or-cut : KeptOrCut
-  pub eight-cuts : EightCuts
+  pub kept_or_cut : KeptOrCut
+  pub eight_cuts : EightCuts
   -- H4 to H6
-  pub strokes-drawn : StrokesDrawn
+  pub strokes_drawn : StrokesDrawn
   -- B3: within the limit as the station; and by any two limits
   pub read_alike : ReadAlike
   pub within_both : WithinBoth
-  pub board-alike : BoardAlike
+  pub board_alike : BoardAlike
   -- B5
-  pub board-room : BoardRoom
+  pub board_room : BoardRoom
   -- T2: the output of an accepted sheet, with a line for every tick
-  pub accepted-output : AcceptedOutput
-  pub every-tick : EveryTick
+  pub accepted_output : AcceptedOutput
+  pub every_tick : EveryTick
   -- T3
-  pub line-one : LineOne
-  pub line-minus : LineMinus
-  pub line-short : LineShort
+  pub line_one : LineOne
+  pub line_minus : LineMinus
+  pub line_short : LineShort
   -- T4
-  pub leg-refused : LegRefused
+  pub leg_refused : LegRefused
   -- T5
-  pub course-a : CourseA
+  pub course_a : CourseA
   -- W1 to W8, and W9 at one pair of values
-  pub starred-right : StarredRight
+  pub starred_right : StarredRight
   -- W9 for all values
-  pub free-pair-unbent : FreePairUnbent
+  pub free_pair_unbent : FreePairUnbent
   -- W12
-  pub answers-tried : AnswersTried
-  pub sheet-tried : SheetTried
+  pub answers_tried : AnswersTried
+  pub sheet_tried : SheetTried
   -- W13
-  pub moves-tried : MovesTried
+  pub moves_tried : MovesTried
   -- W14
-  pub reach-tried : ReachTried
+  pub reach_tried : ReachTried
   -- W15
-  pub joins-tried : JoinsTried
-  pub ticks-tried : TicksTried
-  pub most-tried : MostTried
+  pub joins_tried : JoinsTried
+  pub ticks_tried : TicksTried
+  pub most_tried : MostTried
   -- W16
-  pub mirror-tried : MirrorTried
+  pub mirror_tried : MirrorTried
   -- W17
-  pub search-tried : SearchTried
+  pub search_tried : SearchTried
   -- W18
-  pub rounds-tried : RoundsTried
+  pub rounds_tried : RoundsTried
   -- W19
-  pub strokes-tried : StrokesTried
+  pub strokes_tried : StrokesTried
   -- W20
-  pub laps-tried : LapsTried
+  pub laps_tried : LapsTried
   -- W21
-  pub board-tried : BoardTried
+  pub board_tried : BoardTried
   -- K4, K8: zeros in place of bend numbers fail on tenfold A
-  pub chord-not-near : ChordNotNear
+  pub chord_not_near : ChordNotNear
 
 -- What demand 3 rests on, step by step (docs/THEORY.md)
 pub record Theory : Type 0 where
   -- rows
   pub solvable : Solvable
   pub unique : Unique
-  pub solution-bounded : SolutionBounded
-  pub passes-near : PassesNear
-  pub forty-passes-near : FortyPassesNear
-  pub passes-bounded : PassesBounded
-  pub early-end : EarlyEnd
+  pub solution_bounded : SolutionBounded
+  pub passes_near : PassesNear
+  pub forty_passes_near : FortyPassesNear
+  pub passes_bounded : PassesBounded
+  pub early_end : EarlyEnd
   -- E5
-  pub rows-follow : RowsFollow
-  pub spline-exists : SplineExists
-  pub one-curve : OneCurve
-  pub course-in-bounds : CourseInBounds
-  pub bends-near : BendsNear
-  pub free-pair-zeros : FreePairZeros
-  pub bends-bounded : BendsBounded
-  pub position-sharp : PositionSharp
-  pub position-near : PositionNear
+  pub rows_follow : RowsFollow
+  pub spline_exists : SplineExists
+  pub one_curve : OneCurve
+  pub course_in_bounds : CourseInBounds
+  pub bends_near : BendsNear
+  pub free_pair_zeros : FreePairZeros
+  pub bends_bounded : BendsBounded
+  pub position_sharp : PositionSharp
+  pub position_near : PositionNear
 
 pub record Claims : Type 0 where
   pub demand1 : Demand1
@@ -204,16 +204,16 @@ pub record Claims : Type 0 where
   -- D3: C2 to C9
   pub demand3 : Claim
   -- C1: own bend numbers are there after a laying out
-  pub own-laid : OwnLaid
+  pub own_laid : OwnLaid
   -- B4: by a reader of whatever limit, and so on the board
-  pub claim-by : ClaimBy
-  pub board-claim : BoardClaim
+  pub claim_by : ClaimBy
+  pub board_claim : BoardClaim
   -- J5: of joined sheets
-  pub joined-near : JoinedNear
+  pub joined_near : JoinedNear
   -- Q7: of a fleet's places
-  pub served-near : ServedNear
-  pub flying-served : FlyingServed
+  pub served_near : ServedNear
+  pub flying_served : FlyingServed
   -- H7: of strokes
-  pub own-drawn : OwnDrawn
-  pub strokes-near : StrokesNear
+  pub own_drawn : OwnDrawn
+  pub strokes_near : StrokesNear
   pub theory : Theory

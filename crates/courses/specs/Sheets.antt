@@ -1,6 +1,6 @@
 -- A sheet's bytes from its fields (group S), to write worked courses readably. The courses themselves show that it is read as written.
 use Rattle.std.specs.Prelude.{List, [], ◌∷◌, ◌++◌, ℕ, suc, ◌+◌, ◌*◌, ◌-◌, ◌/◌, ◌%◌, ℤ, pos, negsuc, length}
-use Rattle.ends.specs.Ends.{kindNumber}
+use Rattle.ends.specs.Ends.{kind_number}
 use Rattle.ends.specs.declared.EndKind.{EndKind}
 
 abbrev pub two : ℕ → List ℕ
@@ -31,4 +31,4 @@ northward (z ∷ zs) = z ∷ pos 0 ∷ pos 0 ∷ northward zs
 abbrev pub sheet : EndKind → List ℕ → List ℤ → List ℤ → List ℕ
 sheet k legs numbers slopes =
     four (8 + 2 * length legs + 4 * length numbers + 4 * length slopes)
-    ++ 1 ∷ kindNumber k ∷ two (length numbers / 3) ++ twos legs ++ signeds numbers ++ signeds slopes
+    ++ 1 ∷ kind_number k ∷ two (length numbers / 3) ++ twos legs ++ signeds numbers ++ signeds slopes

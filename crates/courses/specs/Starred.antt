@@ -2,10 +2,10 @@
 use Rattle.std.specs.Prelude.{◌≡◌, List, [], ◌∷◌, ℕ, ◌*◌, ℤ, pos, negsuc, ◌*ℤ◌, replicate, take, get_or}
 use Rattle.ends.specs.declared.EndKind.TheVariants.{Free, Held, Closed}
 use Rattle.sheet.specs.Fields.{points, leg, waypoint}
-use Rattle.layout.specs.Layout.{layOut, laidOut}
-use Rattle.runner.specs.Ticks.{spotAt, tickOf}
+use Rattle.layout.specs.Layout.{lay_out, laid_out}
+use Rattle.runner.specs.Ticks.{spot_at, tick_of}
 use Rattle.spline.specs.Position.{numerator}
-use Rattle.place.specs.Places.{placeAtTick, bendOf, end_of}
+use Rattle.place.specs.Places.{place_at_tick, bend_of, end_of}
 use Rattle.courses.specs.Sheets.{sheet, northward}
 
 -- what is asked at a tick: where it stands, counted from 0, the place, and the value before rounding as a fraction where the clause tells it
@@ -86,24 +86,24 @@ Every P (x ∷ xs) = P x × Every P xs
 
 -- what a laying out leaves in a list of 7s
 abbrev pub laid : List ℕ → List ℤ
-laid s = laidOut s (replicate (3 * points s) (pos 7))
+laid s = laid_out s (replicate (3 * points s) (pos 7))
 
 -- the fraction's denominator times the position's numerator is the fraction's numerator times 65,536 × h
 abbrev pub Exactly : List ℕ → ℕ → (ℤ × ℕ) → Type 0
 Exactly s t f =
-    let r = spotAt s t in let i = r.leg in
-    pos f.1 *ℤ numerator (leg s i) r.offset (waypoint s 0 i) (waypoint s 0 (end_of s i)) (bendOf s (laid s) 0 i) (bendOf s (laid s) 0 (end_of s i))
+    let r = spot_at s t in let i = r.leg in
+    pos f.1 *ℤ numerator (leg s i) r.offset (waypoint s 0 i) (waypoint s 0 (end_of s i)) (bend_of s (laid s) 0 i) (bend_of s (laid s) 0 (end_of s i))
     ≡ f.0 *ℤ pos (65_536 * leg s i)
 
 abbrev pub AskedRight : List ℕ → Asked → Type 0
 AskedRight s a =
-    (tickOf s (spotAt s a.tick) ≡ a.stands)
-    × (get_or (placeAtTick s (laid s) a.tick).values 0 (pos 0) ≡ a.given)
-    × ((placeAtTick s (laid s) a.tick).number ≡ 0)
+    (tick_of s (spot_at s a.tick) ≡ a.stands)
+    × (get_or (place_at_tick s (laid s) a.tick).values 0 (pos 0) ≡ a.given)
+    × ((place_at_tick s (laid s) a.tick).number ≡ 0)
     × Every (Exactly s a.tick) a.exactly
 
 abbrev pub Right : Worked → Type 0
-Right w = ((layOut w.bytes (3 * points w.bytes)).number ≡ 0) × (take (points w.bytes) (laid w.bytes) ≡ w.bends) × Every (AskedRight w.bytes) w.asked
+Right w = ((lay_out w.bytes (3 * points w.bytes)).number ≡ 0) × (take (points w.bytes) (laid w.bytes) ≡ w.bends) × Every (AskedRight w.bytes) w.asked
 
 -- all of them are right
 abbrev pub StarredRight : Type 0

@@ -7,9 +7,9 @@ use Rattle.sheet.specs.Reading.{Accepted}
 use Rattle.spline.specs.Spline.{Curve, Exact, value_at}
 use Rattle.spline.specs.Position.{Near}
 use Rattle.layout.specs.Course.{course}
-use Rattle.layout.specs.Layout.{allBends}
-use Rattle.runner.specs.Ticks.{spotAt}
-use Rattle.place.specs.Places.{placeOn, placeAtTick}
+use Rattle.layout.specs.Layout.{all_bends}
+use Rattle.runner.specs.Ticks.{spot_at}
+use Rattle.place.specs.Places.{place_on, place_at_tick}
 use Rattle.courses.specs.Sheets.{sheet}
 use Rattle.courses.specs.Starred.{laid}
 
@@ -27,16 +27,16 @@ given north = record { number = 0; values = north ∷ pos 10 ∷ pos 21 ∷ [] }
 -- at tick 1 of this course
 pub record ChordNotNear : Type 0 where
   -- the station's own bend numbers give 55 ..
-  pub bent : placeAtTick tenfold (laid tenfold) 1 ≡ given (pos 55)
+  pub bent : place_at_tick tenfold (laid tenfold) 1 ≡ given (pos 55)
   -- .. and zeros the chord, 40, which is not refused ..
-  pub chord : placeAtTick tenfold unbent 1 ≡ given (pos 40)
+  pub chord : place_at_tick tenfold unbent 1 ≡ given (pos 40)
   -- .. but is near no exact spline
   pub far : (f : Curve) → Exact (course tenfold 0) f
-      → let r = spotAt tenfold 1 in ¬ Near f.denominator (value_at (f.cubic r.leg) r.offset) (placeOn tenfold unbent r 0)
+      → let r = spot_at tenfold 1 in ¬ Near f.denominator (value_at (f.cubic r.leg) r.offset) (place_on tenfold unbent r 0)
 
 -- W9: whatever the values, on each axis
 abbrev pub FreePairUnbent : Type 0
-FreePairUnbent = (s : List ℕ) → kind s ≡ Free → points s ≡ 2 → allBends s ≡ replicate 6 (pos 0)
+FreePairUnbent = (s : List ℕ) → kind s ≡ Free → points s ≡ 2 → all_bends s ≡ replicate 6 (pos 0)
 
 -- S9: no accepted sheet has more than 7,198 bytes, and one has as many
 pub record Longest : Type 0 where

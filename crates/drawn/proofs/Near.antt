@@ -9,53 +9,53 @@ use lib.IntN.{ℤ, pos, nat_abs, ◌+ℤ◌, ◌-ℤ◌, ◌*ℤ◌}
 use lib.ListN.{length}
 use Rattle.ends.specs.declared.EndKind.{EndKind}
 use Rattle.ends.specs.declared.EndKind.TheVariants.{Free, Held, Closed}
-use Rattle.integers.proofs.Order.{abs-sub, abs-mul, abs-mul-le}
+use Rattle.integers.proofs.Order.{abs_sub, abs_mul, abs_mul_le}
 use Rattle.integers.proofs.Ring.{solve, ◌≋◌, ◌⊕◌, ◌⊖◌, ◌⊗◌}
 use Rattle.sheet.specs.Answers.{Told}
 use Rattle.sheet.specs.Fields.{kind, legs, ticks}
 use Rattle.sheet.specs.Reading.{Accepted}
 use Rattle.sheet.specs.declared.Refusal.TheVariants.{Shelf, Adrift, Bend}
 use Rattle.sheet.proofs.Below.{none_any}
-use Rattle.sheet.proofs.Laws.{accepted-bounds}
-use Rattle.answers.proofs.Guards.{not-refused, not-passed-on}
+use Rattle.sheet.proofs.Laws.{accepted_bounds}
+use Rattle.answers.proofs.Guards.{not_refused, not_passed_on}
 use Rattle.spline.specs.Spline.{value_at}
 use Rattle.spline.specs.Position.{Near}
 use Rattle.layout.specs.Layout.{short}
-use Rattle.runner.specs.Ticks.{runner, spotAt}
+use Rattle.runner.specs.Ticks.{runner, spot_at}
 use Rattle.runner.specs.Steps.{adrift}
-use Rattle.runner.proofs.Standing.{on-leg, not-adrift, has-legs}
-use Rattle.place.specs.Places.{bendOutside, placeOfRunnerBy}
+use Rattle.runner.proofs.Standing.{on_leg, not_adrift, has_legs}
+use Rattle.place.specs.Places.{bend_outside, place_of_runner_by}
 use Rattle.station.specs.Claim.{Own, Answers}
 use Rattle.station.proofs.Claim.{claim}
 use Rattle.stretch.specs.Theorems.{Within}
-use Rattle.stretch.proofs.Chains.{chain-map}
-use Rattle.strokes.specs.Strokes.{anyBend}
+use Rattle.stretch.proofs.Chains.{chain_map}
+use Rattle.strokes.specs.Strokes.{any_bend}
 use Rattle.drawn.specs.Given.{given, Stroke, StrokeNear, NearSpline}
 use Rattle.drawn.specs.Theorems.{OwnDrawn, StrokesNear}
-use Rattle.drawn.proofs.Drawn.{done-is, room-for-all}
-use Rattle.drawn.proofs.PlacesGiven.{given-placed}
+use Rattle.drawn.proofs.Drawn.{done_is, room_for_all}
+use Rattle.drawn.proofs.PlacesGiven.{given_placed}
 
 module _ (s : List ℕ) (a : Accepted s) (list : List ℤ) (own : Own s list) where
   -- a leg's first runner gets its place, so that neither 9 nor 12 applies there
-  leg-answered : (i : ℕ) → i < legs s → (short s (length list) ≡ false) × (bendOutside s list i ≡ false)
-  unfolding placeOfRunnerBy
-  leg-answered i h =
+  leg_answered : (i : ℕ) → i < legs s → (short s (length list) ≡ false) × (bend_outside s list i ≡ false)
+  unfolding place_of_runner_by
+  leg_answered i h =
       let r = runner i 0 in
-      let z = ap (λ (x : Told). x.number) ((claim s a).by-runner list own r (not-adrift s r (on-leg h ((accepted-bounds s a).leg-low i h) (λ _. refl)))).place in
-      let p = not-passed-on s _ z in
-      let q = not-refused (short s (length list)) Shelf _ p.1 in
-      let d = not-refused (adrift s r) Adrift _ q.1 in
-      (q.0, (not-refused (bendOutside s list i) Bend _ d.1).0)
+      let z = ap (λ (x : Told). x.number) ((claim s a).by_runner list own r (not_adrift s r (on_leg h ((accepted_bounds s a).leg_low i h) (λ _. refl)))).place in
+      let p = not_passed_on s _ z in
+      let q = not_refused (short s (length list)) Shelf _ p.1 in
+      let d = not_refused (adrift s r) Adrift _ q.1 in
+      (q.0, (not_refused (bend_outside s list i) Bend _ d.1).0)
 
   shelf : short s (length list) ≡ false
-  shelf = (leg-answered 0 (has-legs s a)).0
+  shelf = (leg_answered 0 (has_legs s a)).0
 
-  no-bend : anyBend s list ≡ false
-  unfolding anyBend
-  no-bend = none_any (bendOutside s list) (legs s) (λ i h. (leg-answered i h).1)
+  no_bend : any_bend s list ≡ false
+  unfolding any_bend
+  no_bend = none_any (bend_outside s list) (legs s) (λ i h. (leg_answered i h).1)
 
-pub own-drawn : OwnDrawn
-own-drawn s a list own tolerance grain room h = room-for-all s a list (shelf s a list own) tolerance grain (no-bend s a list own) room h
+pub own_drawn : OwnDrawn
+own_drawn s a list own tolerance grain room h = room_for_all s a list (shelf s a list own) tolerance grain (no_bend s a list own) room h
 
 -- ---- the two distances added, both times m and the denominator
 module _ (t m u D : ℕ) (E x y z : ℤ) where
@@ -68,24 +68,24 @@ module _ (t m u D : ℕ) (E x y z : ℤ) where
   unfolding Near
   added h k =
       let A = pos D *ℤ y -ℤ E in let W = pos m *ℤ (y -ℤ x) -ℤ pos u *ℤ (z -ℤ x) in
-      let first = abs-mul (pos m) A in
-      let second : nat_abs (pos D *ℤ W) ≤ D * (t * m) = abs-mul-le (pos D) W (omega arith) h in
+      let first = abs_mul (pos m) A in
+      let second : nat_abs (pos D *ℤ W) ≤ D * (t * m) = abs_mul_le (pos D) W (omega arith) h in
       let scaled : m * (2 * nat_abs A) ≤ m * (3 * D) = mul-le-mul (le_refl m) k in
-      rw apart (omega (arith, abs-sub (pos m *ℤ A) (pos D *ℤ W), first, second, scaled))
+      rw apart (omega (arith, abs_sub (pos m *ℤ A) (pos D *ℤ W), first, second, scaled))
 
 answers_of : (k : EndKind) (p t : ℕ) → t ≤ p → p ≤ 131_072 → Answers k p t
 answers_of Free p t h few = h
 answers_of Held p t h few = h
 answers_of Closed p t h few = omega arith
 
-pub strokes-near : StrokesNear
-strokes-near s list own tolerance out d =
+pub strokes_near : StrokesNear
+strokes_near s list own tolerance out d =
     let t = nat_abs tolerance in
-    let a = (done-is s list tolerance (length out) (ap (λ (r : Told). r.number) d.counted)).accepted in
-    chain-map (Stroke s list t) (λ p q h. h.rises) (NearSpline s list t) 0 (ticks s) d.rest d.strokes
+    let a = (done_is s list tolerance (length out) (ap (λ (r : Told). r.number) d.counted)).accepted in
+    chain_map (Stroke s list t) (λ p q h. h.rises) (NearSpline s list t) 0 (ticks s) d.rest d.strokes
     (λ p q fits h axis x k low high f exact.
-    let there = (claim s a).by-tick list own x (answers_of (kind s) (ticks s) x (omega arith) (accepted-bounds s a).few-ticks) in
-    let e = given-placed s list x (spotAt s x) there.place axis k in
-    added t (q - p) (x - p) f.denominator (value_at (f.cubic (spotAt s x).leg) (spotAt s x).offset) (given s list axis p) (given s list axis x) (given s list axis q)
+    let there = (claim s a).by_tick list own x (answers_of (kind s) (ticks s) x (omega arith) (accepted_bounds s a).few_ticks) in
+    let e = given_placed s list x (spot_at s x) there.place axis k in
+    added t (q - p) (x - p) f.denominator (value_at (f.cubic (spot_at s x).leg) (spot_at s x).offset) (given s list axis p) (given s list axis x) (given s list axis q)
     (h.near axis x k low high)
     (rw e (there.near axis k f exact)))

@@ -4,19 +4,19 @@ use Rattle.ends.specs.declared.EndKind.{EndKind}
 use Rattle.ends.specs.declared.EndKind.TheVariants.{Free, Held, Closed}
 
 -- S4: the kind's byte
-abbrev pub kindNumber : EndKind → ℕ
-kindNumber Free = 0
-kindNumber Held = 1
-kindNumber Closed = 2
+abbrev pub kind_number : EndKind → ℕ
+kind_number Free = 0
+kind_number Held = 1
+kind_number Closed = 2
 
 -- S6: L of N waypoints; a closed course has the closing leg besides
-abbrev pub legCount : EndKind → ℕ → ℕ
-legCount Free n = n - 1
-legCount Held n = n - 1
-legCount Closed n = n
+abbrev pub leg_count : EndKind → ℕ → ℕ
+leg_count Free n = n - 1
+leg_count Held n = n - 1
+leg_count Closed n = n
 
 -- N4: the least N
-abbrev pub leastPoints : EndKind → ℕ
-leastPoints Free = 2
-leastPoints Held = 2
-leastPoints Closed = 3
+abbrev pub least_points : EndKind → ℕ
+least_points Free = 2
+least_points Held = 2
+least_points Closed = 3

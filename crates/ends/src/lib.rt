@@ -1,6 +1,6 @@
 // The kinds of a course's ends (S4), and what is chosen by the kind alone (F2). For every crate that knows a course.
 ghost use Rattle.std.specs.Prelude.{◌≡◌, ◌≤◌};
-ghost use Rattle.ends.specs.Ends.{legCount, leastPoints};
+ghost use Rattle.ends.specs.Ends.{leg_count, least_points};
 
 // S4: in the order of their bytes.
 #[derive(Drop)]
@@ -13,7 +13,7 @@ pub enum EndKind {
 // S6: L, of N waypoints.
 pub fn leg_count(kind: EndKind, points: usize) -> usize
     requires { 1 ≤ points }
-    ensures { result ≡ legCount kind points }
+    ensures { result ≡ leg_count kind points }
 {
     match kind {
         EndKind::Free => points - 1,
@@ -24,7 +24,7 @@ pub fn leg_count(kind: EndKind, points: usize) -> usize
 
 // N4: the least N.
 pub fn least_points(kind: EndKind) -> usize
-    ensures { result ≡ leastPoints kind }
+    ensures { result ≡ least_points kind }
 {
     match kind {
         EndKind::Free => 2,

@@ -2,21 +2,21 @@
 // function answers 0 or a number of group N, and writes its results only when it answers 0 (Q3's turn excepted) and the lent slice has room for them.
 ghost use Rattle.std.specs.Prelude.{◌≡◌, [], ◌∷◌, length};
 ghost use Rattle.sheet.specs.Answers.{told};
-ghost use Rattle.sheet.specs.Reading.{mostPoints, readSheet};
+ghost use Rattle.sheet.specs.Reading.{most_points, read_sheet};
 ghost use Rattle.lists.specs.Lists.{lists};
-ghost use Rattle.lists.specs.Answer.{toldWritten, writeSheet};
-ghost use Rattle.writer.specs.Writing.{writtenInto};
-ghost use Rattle.join.specs.Joining.{joinSheets, joinedInto};
-ghost use Rattle.layout.specs.Layout.{layOut, laidOut};
-ghost use Rattle.runner.specs.Ticks.{runner, atLap, runnerAtTick};
+ghost use Rattle.lists.specs.Answer.{told_written, write_sheet};
+ghost use Rattle.writer.specs.Writing.{written_into};
+ghost use Rattle.join.specs.Joining.{join_sheets, joined_into};
+ghost use Rattle.layout.specs.Layout.{lay_out, laid_out};
+ghost use Rattle.runner.specs.Ticks.{runner, at_lap, runner_at_tick};
 ghost use Rattle.runner.specs.Steps.{stepped};
 ghost use Rattle.runner.specs.Backs.{backed};
-ghost use Rattle.place.specs.Places.{placeAtTick, placeOfRunner};
-ghost use Rattle.seat.specs.Serving.{toldNext};
-ghost use Rattle.fleet.specs.Round.{roundAnswer, turnGiven};
-ghost use Rattle.fleet.specs.Numbers.{records, numbersAfter};
-ghost use Rattle.strokes.specs.Strokes.{toldStrokes, strokesAnswer, drawnInto};
-ghost use Rattle.boundary.specs.Written.{put, written, writtenUnsigned, movedSlice};
+ghost use Rattle.place.specs.Places.{place_at_tick, place_of_runner};
+ghost use Rattle.seat.specs.Serving.{told_next};
+ghost use Rattle.fleet.specs.Round.{round_answer, turn_given};
+ghost use Rattle.fleet.specs.Numbers.{records, numbers_after};
+ghost use Rattle.strokes.specs.Strokes.{told_strokes, strokes_answer, drawn_into};
+ghost use Rattle.boundary.specs.Written.{put, written, written_unsigned, moved_slice};
 
 use boundary::{no_runner, tell_place, tell_runner};
 use lists::Written;
@@ -28,16 +28,16 @@ use strokes::StrokesAnswer;
 // out = kind, N, P
 #[unsafe(no_mangle)]
 pub extern "C" fn station_read(sheet: &[u8], out: &mut [u64]) -> u64
-    ensures answer { result ≡ (told (readSheet sheet.now)).number }
-    ensures out { out.new ≡ writtenUnsigned (told (readSheet sheet.now)) out.old }
+    ensures answer { result ≡ (told (read_sheet sheet.now)).number }
+    ensures out { out.new ≡ written_unsigned (told (read_sheet sheet.now)) out.old }
 {
     boundary::read(MOST_POINTS, sheet, out)
 }
 
 #[unsafe(no_mangle)]
 pub extern "C" fn station_lay_out(sheet: &[u8], list: &mut [i64]) -> u64
-    ensures answer { result ≡ (layOut sheet.now (length list.old)).number }
-    ensures list { list.new ≡ laidOut sheet.now list.old }
+    ensures answer { result ≡ (lay_out sheet.now (length list.old)).number }
+    ensures list { list.new ≡ laid_out sheet.now list.old }
 {
     boundary::lay_out(MOST_POINTS, sheet, list)
 }
@@ -50,8 +50,8 @@ pub extern "C" fn station_place_at_tick(
     tick: u64,
     out: &mut [i64],
 ) -> u64
-    ensures answer { result ≡ (placeAtTick sheet.now list.now tick).number }
-    ensures out { out.new ≡ written (placeAtTick sheet.now list.now tick) out.old }
+    ensures answer { result ≡ (place_at_tick sheet.now list.now tick).number }
+    ensures out { out.new ≡ written (place_at_tick sheet.now list.now tick) out.old }
 {
     boundary::place_at_tick(MOST_POINTS, sheet, list, tick, out)
 }
@@ -66,8 +66,8 @@ pub extern "C" fn station_place_of_runner(
     laps: u64,
     out: &mut [i64],
 ) -> u64
-    ensures answer { result ≡ (placeOfRunner sheet.now list.now (atLap laps (runner leg offset))).number }
-    ensures out { out.new ≡ written (placeOfRunner sheet.now list.now (atLap laps (runner leg offset))) out.old }
+    ensures answer { result ≡ (place_of_runner sheet.now list.now (at_lap laps (runner leg offset))).number }
+    ensures out { out.new ≡ written (place_of_runner sheet.now list.now (at_lap laps (runner leg offset))) out.old }
 {
     boundary::place_of_runner(MOST_POINTS, sheet, list, leg, offset, laps, out)
 }
@@ -75,8 +75,8 @@ pub extern "C" fn station_place_of_runner(
 // out = leg, offset, laps
 #[unsafe(no_mangle)]
 pub extern "C" fn station_runner_at_tick(sheet: &[u8], tick: u64, out: &mut [u64]) -> u64
-    ensures answer { result ≡ (runnerAtTick sheet.now tick).number }
-    ensures out { out.new ≡ writtenUnsigned (runnerAtTick sheet.now tick) out.old }
+    ensures answer { result ≡ (runner_at_tick sheet.now tick).number }
+    ensures out { out.new ≡ written_unsigned (runner_at_tick sheet.now tick) out.old }
 {
     boundary::runner_at_tick(MOST_POINTS, sheet, tick, out)
 }
@@ -84,8 +84,8 @@ pub extern "C" fn station_runner_at_tick(sheet: &[u8], tick: u64, out: &mut [u64
 // lent = leg, offset, laps, moved on in place
 #[unsafe(no_mangle)]
 pub extern "C" fn station_step(sheet: &[u8], lent: &mut [u64]) -> u64
-    ensures answer { result ≡ (movedSlice mostPoints stepped sheet.now lent.old).number }
-    ensures lent { lent.new ≡ writtenUnsigned (movedSlice mostPoints stepped sheet.now lent.old) lent.old }
+    ensures answer { result ≡ (moved_slice most_points stepped sheet.now lent.old).number }
+    ensures lent { lent.new ≡ written_unsigned (moved_slice most_points stepped sheet.now lent.old) lent.old }
 {
     boundary::step(MOST_POINTS, sheet, lent)
 }
@@ -93,8 +93,8 @@ pub extern "C" fn station_step(sheet: &[u8], lent: &mut [u64]) -> u64
 // lent = leg, offset, laps, moved back in place
 #[unsafe(no_mangle)]
 pub extern "C" fn station_back(sheet: &[u8], lent: &mut [u64]) -> u64
-    ensures answer { result ≡ (movedSlice mostPoints backed sheet.now lent.old).number }
-    ensures lent { lent.new ≡ writtenUnsigned (movedSlice mostPoints backed sheet.now lent.old) lent.old }
+    ensures answer { result ≡ (moved_slice most_points backed sheet.now lent.old).number }
+    ensures lent { lent.new ≡ written_unsigned (moved_slice most_points backed sheet.now lent.old) lent.old }
 {
     if lent.len() < 3 {
         return tell_runner(no_runner(MOST_POINTS, sheet), lent);
@@ -116,7 +116,7 @@ fn put_one(out: &mut [u64], a: u64)
 
 // The next turn into the slice, if there is one.
 fn tell_turn(next: NextTurn, out: &mut [u64])
-    ensures { out.new ≡ put (toldNext next) out.old }
+    ensures { out.new ≡ put (told_next next) out.old }
 {
     match next {
         NextTurn::Seat(turn) => put_one(out, turn),
@@ -134,10 +134,10 @@ pub extern "C" fn station_round(
     place: &mut [i64],
     next: &mut [u64],
 ) -> u64
-    ensures answer { result ≡ (roundAnswer sheet.now list.now (records lent.old) turn).number }
-    ensures lent { lent.new ≡ numbersAfter sheet.now list.now lent.old turn }
-    ensures place { place.new ≡ written (roundAnswer sheet.now list.now (records lent.old) turn) place.old }
-    ensures next { next.new ≡ put (turnGiven sheet.now list.now (records lent.old) turn) next.old }
+    ensures answer { result ≡ (round_answer sheet.now list.now (records lent.old) turn).number }
+    ensures lent { lent.new ≡ numbers_after sheet.now list.now lent.old turn }
+    ensures place { place.new ≡ written (round_answer sheet.now list.now (records lent.old) turn) place.old }
+    ensures next { next.new ≡ put (turn_given sheet.now list.now (records lent.old) turn) next.old }
 {
     let answer = fleet::round_numbers(sheet, list, lent, turn);
     let given = answer.next;
@@ -148,8 +148,8 @@ pub extern "C" fn station_round(
 
 // The length into the slice, or the refusal's number.
 fn tell_written(answer: Written, out: &mut [u64]) -> u64
-    ensures answer { result ≡ (toldWritten answer).number }
-    ensures out { out.new ≡ writtenUnsigned (toldWritten answer) out.old }
+    ensures answer { result ≡ (told_written answer).number }
+    ensures out { out.new ≡ written_unsigned (told_written answer) out.old }
 {
     match answer {
         Written::Length(size) => {
@@ -170,9 +170,9 @@ pub extern "C" fn station_write(
     sheet: &mut [u8],
     out: &mut [u64],
 ) -> u64
-    ensures answer { result ≡ (writeSheet (lists kind legs.now waypoints.now slopes.now) (length sheet.old)).number }
-    ensures sheet { sheet.new ≡ writtenInto (lists kind legs.now waypoints.now slopes.now) sheet.old }
-    ensures out { out.new ≡ writtenUnsigned (writeSheet (lists kind legs.now waypoints.now slopes.now) (length sheet.old)) out.old }
+    ensures answer { result ≡ (write_sheet (lists kind legs.now waypoints.now slopes.now) (length sheet.old)).number }
+    ensures sheet { sheet.new ≡ written_into (lists kind legs.now waypoints.now slopes.now) sheet.old }
+    ensures out { out.new ≡ written_unsigned (write_sheet (lists kind legs.now waypoints.now slopes.now) (length sheet.old)) out.old }
 {
     tell_written(writer::write(kind, legs, waypoints, slopes, sheet), out)
 }
@@ -185,17 +185,17 @@ pub extern "C" fn station_join(
     sheet: &mut [u8],
     out: &mut [u64],
 ) -> u64
-    ensures answer { result ≡ (joinSheets first.now second.now (length sheet.old)).number }
-    ensures sheet { sheet.new ≡ joinedInto first.now second.now sheet.old }
-    ensures out { out.new ≡ writtenUnsigned (joinSheets first.now second.now (length sheet.old)) out.old }
+    ensures answer { result ≡ (join_sheets first.now second.now (length sheet.old)).number }
+    ensures sheet { sheet.new ≡ joined_into first.now second.now sheet.old }
+    ensures out { out.new ≡ written_unsigned (join_sheets first.now second.now (length sheet.old)) out.old }
 {
     tell_written(join::join(first, second, sheet), out)
 }
 
 // How many ends into the slice, or the refusal's number.
 fn tell_strokes(answer: StrokesAnswer, out: &mut [u64]) -> u64
-    ensures answer { result ≡ (toldStrokes answer).number }
-    ensures out { out.new ≡ writtenUnsigned (toldStrokes answer) out.old }
+    ensures answer { result ≡ (told_strokes answer).number }
+    ensures out { out.new ≡ written_unsigned (told_strokes answer) out.old }
 {
     match answer {
         StrokesAnswer::Ends(count) => {
@@ -215,9 +215,9 @@ pub extern "C" fn station_strokes(
     ends: &mut [u64],
     out: &mut [u64],
 ) -> u64
-    ensures answer { result ≡ (strokesAnswer sheet.now list.now tolerance (length ends.old)).number }
-    ensures ends { ends.new ≡ drawnInto sheet.now list.now tolerance ends.old }
-    ensures out { out.new ≡ writtenUnsigned (strokesAnswer sheet.now list.now tolerance (length ends.old)) out.old }
+    ensures answer { result ≡ (strokes_answer sheet.now list.now tolerance (length ends.old)).number }
+    ensures ends { ends.new ≡ drawn_into sheet.now list.now tolerance ends.old }
+    ensures out { out.new ≡ written_unsigned (strokes_answer sheet.now list.now tolerance (length ends.old)) out.old }
 {
     tell_strokes(strokes::strokes(sheet, list, tolerance, ends), out)
 }

@@ -27,13 +27,13 @@ module _ {M : Type 1} {𝓤 : Ura M} (𝓛 : Logic 𝓤) (R : RattleType) (one :
   abbrev pub LentOut : Lifetime → Lft → ℕ → List R.Denot → ℕ → ℕ → GName → SProp 𝓤
   LentOut ℓ κ n ys b o γ = sep 𝓤 (sem 𝓛 ((MutSlice ℓ κ R).own_val (record { ref_ptr = (b, o); ghost_name = γ; now = ys }) (slice_val (b, o) n ∷ []))) (A.lent κ (Held R n b o γ))
 
-  lends-all : (ℓ : Lifetime) (κ : Lft) (ys : List R.Denot) (b o : ℕ) → Room R (length ys) → ent 𝓤 (sem 𝓛 (part_at (Array R (length ys)) full_share ys b o)) (H.⇛ (ex 𝓤 (LentOut ℓ κ (length ys) ys b o)))
-  lends-all ℓ κ ys b o room =
+  lends_all : (ℓ : Lifetime) (κ : Lft) (ys : List R.Denot) (b o : ℕ) → Room R (length ys) → ent 𝓤 (sem 𝓛 (part_at (Array R (length ys)) full_share ys b o)) (H.⇛ (ex 𝓤 (LentOut ℓ κ (length ys) ys b o)))
+  lends_all ℓ κ ys b o room =
       qed 𝓛 (‵ (part_at (Array R (length ys)) full_share ys b o) ∷ []) ∵ use1 𝓛 (‵ ((arr_parts (shares R) (length ys)).part full_share ys b o)) (Array-apart 𝓛 R full_share one (length ys) ys b o) $ fsplit ! $ drop ! $
       use1 𝓛 (‵ (cells (mem R) ys b o)) (whole_in 𝓛 R ys b o) $ by ! (lends_slice 𝓛 R ℓ κ ys b o room)
 
-  pub array-lends : (ℓ : Lifetime) (κ : Lft) (n : ℕ) (ys : List R.Denot) (b o : ℕ) → length ys ≡ n → Room R n → ent 𝓤 (sem 𝓛 (part_at (Array R n) full_share ys b o)) (H.⇛ (ex 𝓤 (LentOut ℓ κ n ys b o)))
-  array-lends ℓ κ n ys b o e = subst (λ (m : ℕ). Room R m → ent 𝓤 (sem 𝓛 (part_at (Array R m) full_share ys b o)) (H.⇛ (ex 𝓤 (LentOut ℓ κ m ys b o)))) e (lends-all ℓ κ ys b o)
+  pub array_lends : (ℓ : Lifetime) (κ : Lft) (n : ℕ) (ys : List R.Denot) (b o : ℕ) → length ys ≡ n → Room R n → ent 𝓤 (sem 𝓛 (part_at (Array R n) full_share ys b o)) (H.⇛ (ex 𝓤 (LentOut ℓ κ n ys b o)))
+  array_lends ℓ κ n ys b o e = subst (λ (m : ℕ). Room R m → ent 𝓤 (sem 𝓛 (part_at (Array R m) full_share ys b o)) (H.⇛ (ex 𝓤 (LentOut ℓ κ m ys b o)))) e (lends_all ℓ κ ys b o)
 
   pub array_back : (κ : Lft) (γ : GName) (n : ℕ) (ys : List R.Denot) (b o : ℕ)
       → ent 𝓤 (sep 𝓤 (A.dead κ) (sep 𝓤 (A.lent κ (Held R n b o γ)) (sem 𝓛 (finally R γ ys)))) (H.⇛ (sem 𝓛 (part_at (Array R n) full_share ys b o)))

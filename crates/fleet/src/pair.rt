@@ -1,8 +1,8 @@
 // The lent round on a fleet of its own of two seats, for the program that runs it (crates/fleet_runs): a caller needs no walk by hand.
 ghost use Rattle.std.specs.Prelude.{◌≡◌};
-ghost use Rattle.place.specs.Places.{toldPlaced, placeHeld};
-ghost use Rattle.seat.specs.Serving.{toldNext};
-ghost use Rattle.fleet.specs.Round.{roundAnswer, turnGiven, fleetAfter};
+ghost use Rattle.place.specs.Places.{told_placed, place_held};
+ghost use Rattle.seat.specs.Serving.{told_next};
+ghost use Rattle.fleet.specs.Round.{round_answer, turn_given, fleet_after};
 
 use crate::round;
 use runner::Runner;
@@ -16,7 +16,7 @@ pub struct PairOutcome {
 }
 
 pub fn round_pair(s: &[u8], list: &[i64], pair: [Runner; 2], turn: u64) -> PairOutcome
-    ensures { (toldPlaced result.answer.placed ≡ roundAnswer s.now list.now pair turn) × (result.answer.placed.place.at ≡ placeHeld (roundAnswer s.now list.now pair turn)) × (toldNext result.answer.next ≡ turnGiven s.now list.now pair turn) × (result.pair ≡ fleetAfter s.now list.now pair turn) }
+    ensures { (told_placed result.answer.placed ≡ round_answer s.now list.now pair turn) × (result.answer.placed.place.at ≡ place_held (round_answer s.now list.now pair turn)) × (told_next result.answer.next ≡ turn_given s.now list.now pair turn) × (result.pair ≡ fleet_after s.now list.now pair turn) }
 {
     let mut fleet = pair;
     let answer = round(s, list, &mut fleet, turn);

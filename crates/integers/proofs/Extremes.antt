@@ -2,7 +2,7 @@
 use mathlib.Core.Path.{◌≡◌}
 use Prim.Native.Nat.{ℕ, zero, suc, ◌≤◌, ◌<◌}
 use native.Mathlib.Omega.{arith}
-use Rattle.integers.proofs.Order.{le-or-lt}
+use Rattle.integers.proofs.Order.{le_or_lt}
 
 record Total (Below : ℕ → ℕ → Type 0) : Type 1 where
   reflexive : (a : ℕ) → Below a a
@@ -16,32 +16,32 @@ pub record Extreme (Below : ℕ → ℕ → Type 0) (f : ℕ → ℕ) (n : ℕ) 
   pub bounds : (j : ℕ) → j < n → Below (f j) (f index)
 
 module _ {Below : ℕ → ℕ → Type 0} (order : Total Below) (f : ℕ → ℕ) where
-  with-one-more : (n m : ℕ) → ((j : ℕ) → j < n → Below (f j) (f m)) → Below (f n) (f m) → (j : ℕ) → j < suc n → Below (f j) (f m)
-  with-one-more n m old new j h = le-or-lt n j (Below (f j) (f m)) (λ g. let e : j ≡ n = omega arith in rw e new) (old j)
+  with_one_more : (n m : ℕ) → ((j : ℕ) → j < n → Below (f j) (f m)) → Below (f n) (f m) → (j : ℕ) → j < suc n → Below (f j) (f m)
+  with_one_more n m old new j h = le_or_lt n j (Below (f j) (f m)) (λ g. let e : j ≡ n = omega arith in rw e new) (old j)
 
   extreme : (n : ℕ) → Extreme Below f (suc n)
-  extreme zero = record { index = 0; fits = omega arith; bounds = with-one-more 0 0 (λ j h. absurd (omega arith)) (order.reflexive (f 0)) }
+  extreme zero = record { index = 0; fits = omega arith; bounds = with_one_more 0 0 (λ j h. absurd (omega arith)) (order.reflexive (f 0)) }
   extreme (suc n) = extend (extreme n)
     where
       extend : Extreme Below f (suc n) → Extreme Below f (suc (suc n))
       extend a = order.either (f (suc n)) (f a.index) (Extreme Below f (suc (suc n)))
-          (λ h. record { index = a.index; fits = omega (arith, a.fits); bounds = with-one-more (suc n) a.index a.bounds h })
+          (λ h. record { index = a.index; fits = omega (arith, a.fits); bounds = with_one_more (suc n) a.index a.bounds h })
           (λ h. record {
             index = suc n;
             fits = omega arith;
-            bounds = with-one-more (suc n) (suc n) (λ j g. order.transitive (f j) (f a.index) (f (suc n)) (a.bounds j g) h) (order.reflexive (f (suc n)));
+            bounds = with_one_more (suc n) (suc n) (λ j g. order.transitive (f j) (f a.index) (f (suc n)) (a.bounds j g) h) (order.reflexive (f (suc n)));
           })
 
 pub largest : (f : ℕ → ℕ) (n : ℕ) → Extreme (λ a b. a ≤ b) f (suc n)
 largest = extreme (record {
   reflexive = λ a. omega arith;
   transitive = λ a b c h k. omega arith;
-  either = λ a b G f g. le-or-lt a b G f (λ h. g (omega arith));
+  either = λ a b G f g. le_or_lt a b G f (λ h. g (omega arith));
 })
 
 pub smallest : (f : ℕ → ℕ) (n : ℕ) → Extreme (λ a b. b ≤ a) f (suc n)
 smallest = extreme (record {
   reflexive = λ a. omega arith;
   transitive = λ a b c h k. omega arith;
-  either = λ a b G f g. le-or-lt b a G f (λ h. g (omega arith));
+  either = λ a b G f g. le_or_lt b a G f (λ h. g (omega arith));
 })

@@ -8,8 +8,8 @@ use lib.IntN.{ℤ, nat_abs, ◌+ℤ◌, ◌-ℤ◌, ◌*ℤ◌}
 use lib.Signed.{mag}
 use mir.Syntax.{w64}
 use mir.Val.{SFits, to_z, of_z}
-use Rattle.integers.proofs.Machine.{fits-abs, back, fits-back}
-use Rattle.integers.proofs.Order.{abs-add, abs-sub, abs-mul-le}
+use Rattle.integers.proofs.Machine.{fits_abs, back, fits_back}
+use Rattle.integers.proofs.Order.{abs_add, abs_sub, abs_mul_le}
 
 -- the number y read back from its bits
 abbrev pub read : ℤ → ℤ
@@ -23,10 +23,10 @@ pub record Made (y x : ℤ) (B : ℕ) : Type 0 where
 
 module _ {y x : ℤ} {B : ℕ} (m : Made y x B) where
   x_fits : SFits w64 x
-  x_fits = fits-abs x (omega (arith, m.size, m.room))
+  x_fits = fits_abs x (omega (arith, m.size, m.room))
 
   pub fits : SFits w64 y
-  fits = fits-back m.same x_fits
+  fits = fits_back m.same x_fits
 
   pub read_back : read y ≡ x
   read_back = back m.same x_fits
@@ -48,10 +48,10 @@ returned (e, h) t = given e (rw e at h) t
 
 module _ {a b x y : ℤ} {B C : ℕ} (m : Made a x B) (n : Made b y C) where
   pub times : T (ltb (B * C) (2 ^ 63)) → Made (read a *ℤ read b) (x *ℤ y) (B * C)
-  times t = given (λ i. read_back m i *ℤ read_back n i) (abs-mul-le x y m.size n.size) t
+  times t = given (λ i. read_back m i *ℤ read_back n i) (abs_mul_le x y m.size n.size) t
 
   pub plus : T (ltb (B + C) (2 ^ 63)) → Made (read a +ℤ read b) (x +ℤ y) (B + C)
-  plus t = given (λ i. read_back m i +ℤ read_back n i) (omega (arith, abs-add x y, m.size, n.size)) t
+  plus t = given (λ i. read_back m i +ℤ read_back n i) (omega (arith, abs_add x y, m.size, n.size)) t
 
   pub minus : T (ltb (B + C) (2 ^ 63)) → Made (read a -ℤ read b) (x -ℤ y) (B + C)
-  minus t = given (λ i. read_back m i -ℤ read_back n i) (omega (arith, abs-sub x y, m.size, n.size)) t
+  minus t = given (λ i. read_back m i -ℤ read_back n i) (omega (arith, abs_sub x y, m.size, n.size)) t

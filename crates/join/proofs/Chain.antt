@@ -12,133 +12,133 @@ use Rattle.ends.specs.declared.EndKind.{EndKind}
 use Rattle.ends.specs.declared.EndKind.TheVariants.{Free, Held, Closed}
 use Rattle.sheet.specs.Answers.{Told, refused}
 use Rattle.sheet.specs.Fields.{kind, points}
-use Rattle.sheet.specs.Reading.{Accepted, mostPoints, readSheet}
+use Rattle.sheet.specs.Reading.{Accepted, most_points, read_sheet}
 use Rattle.sheet.specs.declared.Refusal.{Refusal}
 use Rattle.sheet.specs.declared.Refusal.TheVariants.{Page, Shut, Apart, Crowded}
 use Rattle.sheet.proofs.Below.{or_left, or_right}
-use Rattle.answers.specs.Answers.{passOn, guard}
-use Rattle.answers.proofs.Guards.{stopped, passed, not-refused, read-on, not-passed-on, done-changes, refused-keeps}
-use Rattle.lists.specs.Lists.{pointsIn, size_of}
-use Rattle.lists.specs.Answer.{toldWritten}
+use Rattle.answers.specs.Answers.{pass_on, guard}
+use Rattle.answers.proofs.Guards.{stopped, passed, not_refused, read_on, not_passed_on, done_changes, refused_keeps}
+use Rattle.lists.specs.Lists.{points_in, size_of}
+use Rattle.lists.specs.Answer.{told_written}
 use Rattle.lists.specs.declared.Written.TheVariants.{Length}
 use Rattle.writer.specs.Inside.{over}
 use Rattle.writer.proofs.Parts.{long}
-use Rattle.join.specs.Joining.{isShut, shut, apart, crowded, joinFree, joinedLists, joinedSheet, joinSheets, joinedInto}
+use Rattle.join.specs.Joining.{is_shut, shut, apart, crowded, join_free, joined_lists, joined_sheet, join_sheets, joined_into}
 use Rattle.join.specs.Inside.{BothFree}
-use Rattle.join.proofs.Course.{writable-joined}
+use Rattle.join.proofs.Course.{writable_joined}
 use Rattle.join.proofs.Worked as worked
 
-free_ended : (k : EndKind) → isShut k ≡ false → k ≡ Free
+free_ended : (k : EndKind) → is_shut k ≡ false → k ≡ Free
 free_ended Free e = refl
 free_ended Held e = absurd (false≢true (sym e))
 free_ended Closed e = absurd (false≢true (sym e))
 
 -- two accepted sheets that are not shut
-pub both-free : (s : List ℕ) (n : ℕ) (t : List ℕ) (m : ℕ) → Accepted s → Accepted t → shut s t ≡ false → n ≡ points s → m ≡ points t → BothFree s n t m
-both-free s n t m a b e n-is m-is = record {
+pub both_free : (s : List ℕ) (n : ℕ) (t : List ℕ) (m : ℕ) → Accepted s → Accepted t → shut s t ≡ false → n ≡ points s → m ≡ points t → BothFree s n t m
+both_free s n t m a b e n-is m-is = record {
   first = a;
   second = b;
-  first-free = free_ended (kind s) (or_left (isShut (kind s)) (isShut (kind t)) e);
-  second-free = free_ended (kind t) (or_right (isShut (kind s)) (isShut (kind t)) e);
-  first-points = n-is;
-  second-points = m-is;
+  first_free = free_ended (kind s) (or_left (is_shut (kind s)) (is_shut (kind t)) e);
+  second_free = free_ended (kind t) (or_right (is_shut (kind s)) (is_shut (kind t)) e);
+  first_points = n-is;
+  second_points = m-is;
 }
 
 module _ (s t : List ℕ) (room : ℕ) where
   abbrev size : ℕ
-  size = size_of (joinedLists s t)
+  size = size_of (joined_lists s t)
 
   -- what is left behind 18, 17, and both readings
-  abbrev behindCrowded : Told
-  behindCrowded = guard (ltb room size) Page (toldWritten (Length size))
+  abbrev behind_crowded : Told
+  behind_crowded = guard (ltb room size) Page (told_written (Length size))
 
-  abbrev behindApart : Told
-  behindApart = guard (crowded s t) Crowded behindCrowded
+  abbrev behind_apart : Told
+  behind_apart = guard (crowded s t) Crowded behind_crowded
 
-  abbrev behindSecond : Told
-  behindSecond = guard (shut s t) Shut (joinFree s t room)
+  abbrev behind_second : Told
+  behind_second = guard (shut s t) Shut (join_free s t room)
 
   -- ---- each test in its turn
   module _ (first : Accepted s) where
-    pub after_first : passOn (readSheet t) behindSecond ≡ joinSheets s t room
-    unfolding joinSheets
-    after_first = read-on s first (passOn (readSheet t) behindSecond)
+    pub after_first : pass_on (read_sheet t) behind_second ≡ join_sheets s t room
+    unfolding join_sheets
+    after_first = read_on s first (pass_on (read_sheet t) behind_second)
 
     module _ (second : Accepted t) where
-      after-second : behindSecond ≡ joinSheets s t room
-      after-second = read-on t second behindSecond ∙ after_first
+      after_second : behind_second ≡ join_sheets s t room
+      after_second = read_on t second behind_second ∙ after_first
 
-      pub shut-stops : shut s t ≡ true → refused Shut ≡ joinSheets s t room
-      shut-stops e = stopped (shut s t) Shut (joinFree s t room) e ∙ after-second
+      pub shut_stops : shut s t ≡ true → refused Shut ≡ join_sheets s t room
+      shut_stops e = stopped (shut s t) Shut (join_free s t room) e ∙ after_second
 
       module _ (free : shut s t ≡ false) where
-        after-shut : joinFree s t room ≡ joinSheets s t room
-        after-shut = passed (shut s t) Shut (joinFree s t room) free ∙ after-second
+        after_shut : join_free s t room ≡ join_sheets s t room
+        after_shut = passed (shut s t) Shut (join_free s t room) free ∙ after_second
 
-        pub apart-stops : apart s t ≡ true → refused Apart ≡ joinSheets s t room
-        apart-stops e = stopped (apart s t) Apart behindApart e ∙ after-shut
+        pub apart_stops : apart s t ≡ true → refused Apart ≡ join_sheets s t room
+        apart_stops e = stopped (apart s t) Apart behind_apart e ∙ after_shut
 
         module _ (meet : apart s t ≡ false) where
-          after-apart : behindApart ≡ joinSheets s t room
-          after-apart = passed (apart s t) Apart behindApart meet ∙ after-shut
+          after_apart : behind_apart ≡ join_sheets s t room
+          after_apart = passed (apart s t) Apart behind_apart meet ∙ after_shut
 
-          pub crowded-stops : crowded s t ≡ true → refused Crowded ≡ joinSheets s t room
-          crowded-stops e = stopped (crowded s t) Crowded behindCrowded e ∙ after-apart
+          pub crowded_stops : crowded s t ≡ true → refused Crowded ≡ join_sheets s t room
+          crowded_stops e = stopped (crowded s t) Crowded behind_crowded e ∙ after_apart
 
           module _ (few : crowded s t ≡ false) where
-            pub after-crowded : behindCrowded ≡ joinSheets s t room
-            after-crowded = passed (crowded s t) Crowded behindCrowded few ∙ after-apart
+            pub after_crowded : behind_crowded ≡ join_sheets s t room
+            after_crowded = passed (crowded s t) Crowded behind_crowded few ∙ after_apart
 
-            pub page-stops : ltb room size ≡ true → refused Page ≡ joinSheets s t room
-            page-stops e = stopped (ltb room size) Page (toldWritten (Length size)) e ∙ after-crowded
+            pub page_stops : ltb room size ≡ true → refused Page ≡ join_sheets s t room
+            page_stops e = stopped (ltb room size) Page (told_written (Length size)) e ∙ after_crowded
 
-            pub all-passed : ltb room size ≡ false → toldWritten (Length size) ≡ joinSheets s t room
-            all-passed e = passed (ltb room size) Page (toldWritten (Length size)) e ∙ after-crowded
+            pub all_passed : ltb room size ≡ false → told_written (Length size) ≡ join_sheets s t room
+            all_passed e = passed (ltb room size) Page (told_written (Length size)) e ∙ after_crowded
 
   -- ---- a call that is not refused
   pub record Joins : Type 0 where
     pub free : BothFree s (points s) t (points t)
     pub meet : apart s t ≡ false
-    pub few : pointsIn (joinedLists s t).waypoints ≤ mostPoints
+    pub few : points_in (joined_lists s t).waypoints ≤ most_points
     pub fits : size ≤ room
-    pub answer : joinSheets s t room ≡ toldWritten (Length size)
+    pub answer : join_sheets s t room ≡ told_written (Length size)
 
-  pub joins : (joinSheets s t room).number ≡ 0 → Joins
-  unfolding joinSheets
+  pub joins : (join_sheets s t room).number ≡ 0 → Joins
+  unfolding join_sheets
   joins z =
-      let a = not-passed-on s (passOn (readSheet t) behindSecond) z in
-      let b = not-passed-on t behindSecond a.1 in
-      let c = not-refused (shut s t) Shut (joinFree s t room) b.1 in
-      let d = not-refused (apart s t) Apart behindApart c.1 in
-      let e = not-refused (crowded s t) Crowded behindCrowded d.1 in
-      let f = not-refused (ltb room size) Page (toldWritten (Length size)) e.1 in
+      let a = not_passed_on s (pass_on (read_sheet t) behind_second) z in
+      let b = not_passed_on t behind_second a.1 in
+      let c = not_refused (shut s t) Shut (join_free s t room) b.1 in
+      let d = not_refused (apart s t) Apart behind_apart c.1 in
+      let e = not_refused (crowded s t) Crowded behind_crowded d.1 in
+      let f = not_refused (ltb room size) Page (told_written (Length size)) e.1 in
       record {
-        free = both-free s (points s) t (points t) a.0 b.0 c.0 refl refl;
+        free = both_free s (points s) t (points t) a.0 b.0 c.0 refl refl;
         meet = d.0;
-        few = ltb-false mostPoints (pointsIn (joinedLists s t).waypoints) e.0;
+        few = ltb-false most_points (points_in (joined_lists s t).waypoints) e.0;
         fits = ltb-false room size f.0;
-        answer = sym (all-passed a.0 b.0 c.0 d.0 e.0 f.0);
+        answer = sym (all_passed a.0 b.0 c.0 d.0 e.0 f.0);
       }
 
 -- ---- what is left in the slice: a refusal all of it, the answered length the joined sheet and what stood behind it
 module _ (s t out : List ℕ) where
   abbrev new : List ℕ
-  new = joinedSheet s t ++ drop (size_of (joinedLists s t)) out
+  new = joined_sheet s t ++ drop (size_of (joined_lists s t)) out
 
-  pub kept : (r : Refusal) → refused r ≡ joinSheets s t (length out) → (refused r ≡ joinSheets s t (length out)) × (out ≡ joinedInto s t out)
-  unfolding joinedInto
-  kept r e = (e, sym (refused-keeps (joinSheets s t (length out)) new out r e))
+  pub kept : (r : Refusal) → refused r ≡ join_sheets s t (length out) → (refused r ≡ join_sheets s t (length out)) × (out ≡ joined_into s t out)
+  unfolding joined_into
+  kept r e = (e, sym (refused_keeps (join_sheets s t (length out)) new out r e))
 
-  module _ (done : (joinSheets s t (length out)).number ≡ 0) where
+  module _ (done : (join_sheets s t (length out)).number ≡ 0) where
     -- the joined sheet is as long as its lists say
-    pub joined-long : length (joinedSheet s t) ≡ size_of (joinedLists s t)
-    joined-long = let j = joins s t (length out) done in long (joinedLists s t) (writable-joined s (points s) t (points t) j.free j.few)
+    pub joined_long : length (joined_sheet s t) ≡ size_of (joined_lists s t)
+    joined_long = let j = joins s t (length out) done in long (joined_lists s t) (writable_joined s (points s) t (points t) j.free j.few)
 
-    pub left-done : joinedInto s t out ≡ joinedSheet s t ++ drop (length (joinedSheet s t)) out
-    unfolding joinedInto
-    left-done = done-changes (joinSheets s t (length out)) new out done ∙ ap (λ k. joinedSheet s t ++ drop k out) (sym joined-long)
+    pub left_done : joined_into s t out ≡ joined_sheet s t ++ drop (length (joined_sheet s t)) out
+    unfolding joined_into
+    left_done = done_changes (join_sheets s t (length out)) new out done ∙ ap (λ k. joined_sheet s t ++ drop k out) (sym joined_long)
 
     -- as the code writes it
-    pub left-joined : over (joinedSheet s t) 0 out ≡ joinedInto s t out
+    pub left_joined : over (joined_sheet s t) 0 out ≡ joined_into s t out
     unfolding over
-    left-joined = ap (λ k. joinedSheet s t ++ drop k out) (zero-add (length (joinedSheet s t))) ∙ sym left-done
+    left_joined = ap (λ k. joined_sheet s t ++ drop k out) (zero-add (length (joined_sheet s t))) ∙ sym left_done

@@ -8,7 +8,7 @@ use Rattle.sheet.specs.Reading.{Accepted}
 pub record BothFree (s : List ℕ) (n : ℕ) (t : List ℕ) (m : ℕ) : Type 0 where
   pub first : Accepted s
   pub second : Accepted t
-  pub first-free : kind s ≡ Free
-  pub second-free : kind t ≡ Free
-  pub first-points : n ≡ points s
-  pub second-points : m ≡ points t
+  pub first_free : kind s ≡ Free
+  pub second_free : kind t ≡ Free
+  pub first_points : n ≡ points s
+  pub second_points : m ≡ points t

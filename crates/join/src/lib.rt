@@ -3,8 +3,8 @@ mod put;
 mod shared;
 
 ghost use Rattle.std.specs.Prelude.{◌≡◌, length};
-ghost use Rattle.lists.specs.Answer.{toldWritten};
-ghost use Rattle.join.specs.Joining.{isShut, joinSheets, joinedInto};
+ghost use Rattle.lists.specs.Answer.{told_written};
+ghost use Rattle.join.specs.Joining.{is_shut, join_sheets, joined_into};
 
 use ends::EndKind;
 use lists::Written;
@@ -12,7 +12,7 @@ use sheet::{MOST_POINTS, Reading, Refusal};
 
 // N16, of one sheet.
 fn is_shut(kind: EndKind) -> bool
-    ensures { result ≡ isShut kind }
+    ensures { result ≡ is_shut kind }
 {
     match kind {
         EndKind::Free => false,
@@ -24,8 +24,8 @@ fn is_shut(kind: EndKind) -> bool
 // Writes the joined sheet at the slice's front (J1). Tests 1 to 8 of the first sheet, then of the second, 16, 17, 18, and 14 last; a refused call leaves the
 // slice as it is.
 pub fn join(first: &[u8], second: &[u8], sheet: &mut [u8]) -> Written
-    ensures answer { toldWritten result ≡ joinSheets first.now second.now (length sheet.old) }
-    ensures sheet { sheet.new ≡ joinedInto first.now second.now sheet.old }
+    ensures answer { told_written result ≡ join_sheets first.now second.now (length sheet.old) }
+    ensures sheet { sheet.new ≡ joined_into first.now second.now sheet.old }
 {
     let reading = sheet::read(first);
     let Reading::Course {

@@ -2,13 +2,13 @@
 ghost use Rattle.std.specs.Prelude.{◌≡◌, ◌≤◌, length};
 ghost use Rattle.lists.specs.Lists.{size_of};
 ghost use Rattle.writer.specs.Inside.{over};
-ghost use Rattle.join.specs.Joining.{joinedLists, joinedSheet};
+ghost use Rattle.join.specs.Joining.{joined_lists, joined_sheet};
 ghost use Rattle.join.specs.Inside.{BothFree};
 
 // A head, then the two sheets' own bytes: the legs of both, the waypoints of the first, those of the second behind its first.
 pub fn put_joined(first: &[u8], n: usize, second: &[u8], m: usize, size: usize, sheet: &mut [u8])
-    requires { BothFree first.now n second.now m × (size ≡ size_of (joinedLists first.now second.now)) × (size ≤ length sheet.old) }
-    ensures { sheet.new ≡ over (joinedSheet first.now second.now) 0 sheet.old }
+    requires { BothFree first.now n second.now m × (size ≡ size_of (joined_lists first.now second.now)) × (size ≤ length sheet.old) }
+    ensures { sheet.new ≡ over (joined_sheet first.now second.now) 0 sheet.old }
 {
     let legs = 2 * (n - 1);
     let more = 2 * (m - 1);

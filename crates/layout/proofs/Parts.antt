@@ -19,9 +19,9 @@ module _ {A : Type 0} (l : List A) where
       ∙ sym (append_assoc p x (drop e l))
 
   -- three parts of n numbers each
-  pub three-parts : (n : ℕ) (x y z : List A) → length x ≡ n → length y ≡ n
+  pub three_parts : (n : ℕ) (x y z : List A) → length x ≡ n → length y ≡ n
       → put_mid (2 * n) (3 * n - 2 * n) (put_mid n (2 * n - n) (put_mid 0 (n - 0) l x) y) z ≡ (x ++ y ++ z) ++ drop (3 * n) l
-  three-parts n x y z hx hy =
+  three_parts n x y z hx hy =
       let one = put_next l [] x 0 n refl refl (omega arith) in
       let two = put_next (put_mid 0 (n - 0) l x) x y n (2 * n) one hx (omega arith) in
       put_next (put_mid n (2 * n - n) (put_mid 0 (n - 0) l x) y) (x ++ y) z (2 * n) (3 * n) two (length-append x y ∙ omega arith) (omega arith)

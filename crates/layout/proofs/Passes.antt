@@ -8,10 +8,10 @@ use lib.ListN.{length, replicate, length-replicate}
 use Rattle.sheet.specs.Fields.{points}
 use Rattle.systems.specs.Passes.{pass}
 use Rattle.systems.specs.Rows.{Rows}
-use Rattle.systems.proofs.Lists.{length-passes, passes-next, early-end}
+use Rattle.systems.proofs.Lists.{length_passes, passes_next, early_end}
 use Rattle.spline.specs.Spline.{rows, bends}
 use Rattle.layout.specs.Course.{course}
-use Rattle.layout.specs.Inside.{afterPasses}
+use Rattle.layout.specs.Inside.{after_passes}
 
 module _ (s : List ℕ) (axis : ℕ) where
   abbrev R : Rows
@@ -20,17 +20,17 @@ module _ (s : List ℕ) (axis : ℕ) where
   abbrev zeros : List ℤ
   zeros = replicate (points s) (pos 0)
 
-  pub passes-length : (m : ℕ) → length (afterPasses s axis m) ≡ points s
-  passes-length m = length-passes R 65536 m zeros ∙ length-replicate (points s) (pos 0)
+  pub passes_length : (m : ℕ) → length (after_passes s axis m) ≡ points s
+  passes_length m = length_passes R 65536 m zeros ∙ length-replicate (points s) (pos 0)
 
-  pub one_more : (m : ℕ) (z x : List ℤ) → z ≡ afterPasses s axis m → x ≡ pass R 65536 z → x ≡ afterPasses s axis (m + 1)
-  one_more m z x e f = f ∙ ap (pass R 65536) e ∙ sym (ap (afterPasses s axis) (add-one m) ∙ passes-next R 65536 m zeros)
+  pub one_more : (m : ℕ) (z x : List ℤ) → z ≡ after_passes s axis m → x ≡ pass R 65536 z → x ≡ after_passes s axis (m + 1)
+  one_more m z x e f = f ∙ ap (pass R 65536) e ∙ sym (ap (after_passes s axis) (add-one m) ∙ passes_next R 65536 m zeros)
 
-  pub forty : (m : ℕ) (z : List ℤ) → z ≡ afterPasses s axis m → m ≡ 40 → z ≡ bends (course s axis)
+  pub forty : (m : ℕ) (z : List ℤ) → z ≡ after_passes s axis m → m ≡ 40 → z ≡ bends (course s axis)
   unfolding course
-  forty m z e q = e ∙ ap (afterPasses s axis) q
+  forty m z e q = e ∙ ap (after_passes s axis) q
 
   -- a pass that changed nothing
-  pub settled : (m : ℕ) (z x : List ℤ) → m ≤ 40 → z ≡ afterPasses s axis m → x ≡ pass R 65536 z → x ≡ z → x ≡ bends (course s axis)
+  pub settled : (m : ℕ) (z x : List ℤ) → m ≤ 40 → z ≡ after_passes s axis m → x ≡ pass R 65536 z → x ≡ z → x ≡ bends (course s axis)
   unfolding course
-  settled m z x h e f same = same ∙ e ∙ sym (early-end R 65536 zeros m 40 h (ap (pass R 65536) (sym e) ∙ sym f ∙ same ∙ e))
+  settled m z x h e f same = same ∙ e ∙ sym (early_end R 65536 zeros m 40 h (ap (pass R 65536) (sym e) ∙ sym f ∙ same ∙ e))

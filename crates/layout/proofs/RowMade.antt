@@ -7,22 +7,22 @@ use native.Mathlib.Omega.{arith}
 use lib.Dec.{T, leb, leb→le}
 use lib.IntN.{ℤ, pos, nat_abs, ◌*ℤ◌}
 use Rattle.integers.proofs.Linear.{lin, ◌≼◌, ◌⊢◌by◌, hyp}
-use Rattle.integers.proofs.Order.{nonneg-nat, pos-le, le-pos}
+use Rattle.integers.proofs.Order.{nonneg_nat, pos_le, le_pos}
 use Rattle.integers.proofs.Ring.{solve, ◌≋◌, ◌⊗◌, #◌}
 use Rattle.systems.specs.Rows as systems
-use Rattle.layout.specs.Inside.{codeRow, Leg, Sized}
+use Rattle.layout.specs.Inside.{code_row, Leg, Sized}
 use Rattle.layout.specs.declared.row.Row.{Row}
 use Rattle.integers.proofs.Made.{read, Made, read_back, small, given, times}
 
 module _ {h : ℤ} (l : Leg h) where
-  leg-pos : h ≡ pos (nat_abs h)
-  leg-pos = sym (nonneg-nat h (lin 1 (λ h. # 1 ≼ h ∷ [] ⊢ # 0 ≼ h by hyp 0 ∷ []) tt h l.some))
+  leg_pos : h ≡ pos (nat_abs h)
+  leg_pos = sym (nonneg_nat h (lin 1 (λ h. # 1 ≼ h ∷ [] ⊢ # 0 ≼ h by hyp 0 ∷ []) tt h l.some))
 
-  pub leg-some : 1 ≤ nat_abs h
-  leg-some = le-pos 1 (nat_abs h) (rw leg-pos at l.some)
+  pub leg_some : 1 ≤ nat_abs h
+  leg_some = le_pos 1 (nat_abs h) (rw leg_pos at l.some)
 
-  pub leg-made : Made h (pos (nat_abs h)) 256
-  leg-made = given leg-pos l.few tt
+  pub leg_made : Made h (pos (nat_abs h)) 256
+  leg_made = given leg_pos l.few tt
 
 -- the numbers that the code writes out
 pub zero : Made (pos 0) (pos 0) 0
@@ -37,19 +37,19 @@ module _ {h : ℤ} (l : Leg h) where
   a = pos (nat_abs h)
 
   pub square : Made (read h *ℤ read h) (a *ℤ a) 65_536
-  square = times (leg-made l) (leg-made l) tt
+  square = times (leg_made l) (leg_made l) tt
 
   pub doubled : Made (read (pos 2) *ℤ read h) (pos 2 *ℤ a) 512
-  doubled = times two (leg-made l) tt
+  doubled = times two (leg_made l) tt
 
   pub twice : Made (read (read (pos 2) *ℤ read h) *ℤ read h) (pos 2 *ℤ a *ℤ a) 131_072
-  twice = times doubled (leg-made l) tt
+  twice = times doubled (leg_made l) tt
 
   pub rise : (p : ℤ) → nat_abs p ≤ 5_000 → Made (read h *ℤ read p) (a *ℤ p) 1_280_000
-  rise p slope = times (leg-made l) (given {y = p} refl slope tt) tt
+  rise p slope = times (leg_made l) (given {y = p} refl slope tt) tt
 
-  pub twice-some : 1 ≤ 2 * nat_abs h * nat_abs h
-  twice-some = let some = leg-some l in mul-pos (mul-pos (omega arith) some) some
+  pub twice_some : 1 ≤ 2 * nat_abs h * nat_abs h
+  twice_some = let some = leg_some l in mul-pos (mul-pos (omega arith) some) some
 
 -- the right side of a row is taken once
 pub once : {y x : ℤ} {B : ℕ} → Made y x B → Made y (pos 1 *ℤ x) B
@@ -62,11 +62,11 @@ module _ (w : systems.Row) {b m a r : ℤ} {B M A R : ℕ}
   made = record { before = read b; middle = read m; after = read a; right = read r }
 
   pub row_made : 1 ≤ w.middle → T (leb B 16_777_216) → T (leb M 67_108_864) → T (leb A 16_777_216) → T (leb R 1_024_000_000)
-      → (made ≡ codeRow w) × Sized made
+      → (made ≡ code_row w) × Sized made
   row_made some tb tm ta tr = (
     λ i. record { before = read_back before i; middle = read_back middle i; after = read_back after i; right = read_back right i },
     record {
-      some = rw (read_back middle) (pos-le 1 w.middle some);
+      some = rw (read_back middle) (pos_le 1 w.middle some);
       before = omega (arith, small before, leb→le B 16_777_216 tb);
       middle = omega (arith, small middle, leb→le M 67_108_864 tm);
       after = omega (arith, small after, leb→le A 16_777_216 ta);

@@ -4,86 +4,86 @@ use mathlib.Core.Bool.{Bool, true, false}
 use mathlib.Core.List.{List}
 use Prim.Native.Nat.{ℕ, ◌+◌, ◌-◌, ◌<◌}
 use native.Mathlib.Omega.{arith}
-use Rattle.integers.proofs.Order.{le-or-lt}
-use Rattle.ends.specs.Ends.{legCount}
+use Rattle.integers.proofs.Order.{le_or_lt}
+use Rattle.ends.specs.Ends.{leg_count}
 use Rattle.ends.specs.declared.EndKind.{EndKind}
 use Rattle.ends.specs.declared.EndKind.TheVariants.{Free, Held, Closed}
 use Rattle.sheet.specs.Fields.{legs}
 use Rattle.systems.specs.Rows.{Row}
-use Rattle.spline.specs.Spline.{Course, prev, legBefore, stepAfter, stepBefore, innerRow, freeRow, heldStartRow, heldEndRow, row_of}
+use Rattle.spline.specs.Spline.{Course, prev, leg_before, step_after, step_before, inner_row, free_row, held_start_row, held_end_row, row_of}
 use Rattle.spline.specs.Spline as spline
-use Rattle.spline.proofs.Waypoints.{prev-lt}
-use Rattle.spline.proofs.Seats.{lastPoint, inner_at, Seat, seat-row, shared, freeStart, freeEnd, heldStart, heldEnd}
+use Rattle.spline.proofs.Waypoints.{prev_lt}
+use Rattle.spline.proofs.Seats.{last_point, inner_at, Seat, seat_row, shared, free_start, free_end, held_start, held_end}
 use Rattle.layout.specs.Course.{course}
 use Rattle.layout.specs.Inside.{OnSheet, AtEnd, Inner}
-use Rattle.layout.proofs.Neighbours.{prev-later}
-use Rattle.layout.proofs.Given.{same-legs, two-points, in_bounds}
+use Rattle.layout.proofs.Neighbours.{prev_later}
+use Rattle.layout.proofs.Given.{same_legs, two_points, in_bounds}
 
 -- the two legs of an inner waypoint
-inner-legs : (c : Course) (k : EndKind) (n i : ℕ) → c.points ≡ n → Inner k n i → (prev c i < legCount k n) × (i < legCount k n)
-inner-legs c Free n i e (a, b) = (omega (arith, prev-later c i a), omega arith)
-inner-legs c Held n i e (a, b) = (omega (arith, prev-later c i a), omega arith)
-inner-legs c Closed n i e h = (omega (arith, prev-lt c i (omega arith)), h)
+inner_legs : (c : Course) (k : EndKind) (n i : ℕ) → c.points ≡ n → Inner k n i → (prev c i < leg_count k n) × (i < leg_count k n)
+inner_legs c Free n i e (a, b) = (omega (arith, prev_later c i a), omega arith)
+inner_legs c Held n i e (a, b) = (omega (arith, prev_later c i a), omega arith)
+inner_legs c Closed n i e h = (omega (arith, prev_lt c i (omega arith)), h)
 
 module _ {s : List ℕ} {k : EndKind} {n axis : ℕ} (o : OnSheet s k n axis) where
   abbrev c : Course
   c = course s axis
 
   -- the kind that the code was told is the course's
-  pub told-kind : (i : ℕ) → row_of 2 1 k c i ≡ row_of 2 1 c.ends c i
+  pub told_kind : (i : ℕ) → row_of 2 1 k c i ≡ row_of 2 1 c.ends c i
   unfolding course
-  told-kind i = ap (λ (e : EndKind). row_of 2 1 e c i) o.sameKind
+  told_kind i = ap (λ (e : EndKind). row_of 2 1 e c i) o.same_kind
 
-  ends-are : {e : EndKind} → k ≡ e → c.ends ≡ e
+  ends_are : {e : EndKind} → k ≡ e → c.ends ≡ e
   unfolding course
-  ends-are q = sym o.sameKind ∙ q
+  ends_are q = sym o.same_kind ∙ q
 
-  seat-is : {i : ℕ} {r : Row} → Seat 2 1 c i r → row_of 2 1 k c i ≡ r
-  seat-is {i} t = told-kind i ∙ (seat-row 2 1 (in_bounds o) t).1
+  seat_is : {i : ℕ} {r : Row} → Seat 2 1 c i r → row_of 2 1 k c i ≡ r
+  seat_is {i} t = told_kind i ∙ (seat_row 2 1 (in_bounds o) t).1
 
-  pub shared-legs : (i : ℕ) → Inner k n i → (prev c i < legs s) × (i < legs s)
+  pub shared_legs : (i : ℕ) → Inner k n i → (prev c i < legs s) × (i < legs s)
   unfolding course
-  shared-legs i h = rw (same-legs o) at (inner-legs c k n i (sym o.samePoints) h)
+  shared_legs i h = rw (same_legs o) at (inner_legs c k n i (sym o.same_points) h)
 
-  pub inner-row : (i : ℕ) → Inner k n i → row_of 2 1 k c i ≡ inner_at 2 1 c i
+  pub inner_row_lem : (i : ℕ) → Inner k n i → row_of 2 1 k c i ≡ inner_at 2 1 c i
   unfolding course spline.legs
-  inner-row i h = let (f, g) = shared-legs i h in seat-is (shared i f g)
+  inner_row_lem i h = let (f, g) = shared_legs i h in seat_is (shared i f g)
 
   -- an open course's last waypoint
-  at_last : (e : EndKind) → k ≡ e → legCount e n ≡ n - 1 → (r : ℕ → Row) → row_of 2 1 k c (lastPoint c) ≡ r (lastPoint c)
+  at_last : (e : EndKind) → k ≡ e → leg_count e n ≡ n - 1 → (r : ℕ → Row) → row_of 2 1 k c (last_point c) ≡ r (last_point c)
       → (i : ℕ) → i + 1 ≡ n → row_of 2 1 k c i ≡ r i
   unfolding course spline.legs
   at_last e q l r x i h =
-      let last : lastPoint c ≡ i = omega (arith, ap (λ (j : EndKind). legCount j n) q, same-legs o, two-points o) in
+      let last : last_point c ≡ i = omega (arith, ap (λ (j : EndKind). leg_count j n) q, same_legs o, two_points o) in
       subst (λ (j : ℕ). row_of 2 1 k c j ≡ r j) last x
 
-  pub held-start-row : k ≡ Held → row_of 2 1 k c 0 ≡ heldStartRow 2 1 (c.leg 0) (stepAfter c 0) c.startSlope
-  held-start-row q = seat-is (heldStart (ends-are q))
+  pub held_start_row_lem : k ≡ Held → row_of 2 1 k c 0 ≡ held_start_row 2 1 (c.leg 0) (step_after c 0) c.start_slope
+  held_start_row_lem q = seat_is (held_start (ends_are q))
 
-  pub held-end-row : k ≡ Held → (i : ℕ) → i + 1 ≡ n → row_of 2 1 k c i ≡ heldEndRow 2 1 (legBefore c i) (stepBefore c i) c.endSlope
-  held-end-row q = at_last Held q refl (λ j. heldEndRow 2 1 (legBefore c j) (stepBefore c j) c.endSlope) (seat-is (heldEnd (ends-are q)))
+  pub held_end_row_lem : k ≡ Held → (i : ℕ) → i + 1 ≡ n → row_of 2 1 k c i ≡ held_end_row 2 1 (leg_before c i) (step_before c i) c.end_slope
+  held_end_row_lem q = at_last Held q refl (λ j. held_end_row 2 1 (leg_before c j) (step_before c j) c.end_slope) (seat_is (held_end (ends_are q)))
 
-  free-start-row : k ≡ Free → row_of 2 1 k c 0 ≡ freeRow
-  free-start-row q = seat-is (freeStart (ends-are q))
+  free_start_row : k ≡ Free → row_of 2 1 k c 0 ≡ free_row
+  free_start_row q = seat_is (free_start (ends_are q))
 
-  free-end-row : k ≡ Free → (i : ℕ) → i + 1 ≡ n → row_of 2 1 k c i ≡ freeRow
-  free-end-row q = at_last Free q refl (λ j. freeRow) (seat-is (freeEnd (ends-are q)))
+  free_end_row : k ≡ Free → (i : ℕ) → i + 1 ≡ n → row_of 2 1 k c i ≡ free_row
+  free_end_row q = at_last Free q refl (λ j. free_row) (seat_is (free_end (ends_are q)))
 
   -- which of them a pass renews
   abbrev Present : Bool → ℕ → Type 0
   Present b i = (row_of 2 1 k c i).present ≡ b
 
-  pub inner-present : (i : ℕ) → Inner k n i → Present true i
-  unfolding innerRow
-  inner-present i h = ap (λ (r : Row). r.present) (inner-row i h)
+  pub inner_present : (i : ℕ) → Inner k n i → Present true i
+  unfolding inner_row
+  inner_present i h = ap (λ (r : Row). r.present) (inner_row_lem i h)
 
-  at-end : (b : Bool) (i : ℕ) → AtEnd n i → Present b 0 → (i + 1 ≡ n → Present b i) → Present b i
-  at-end b i a x y = le-or-lt 1 i (Present b i) (λ h. y (a h)) (λ h. let e : 0 ≡ i = omega arith in subst (Present b) e x)
+  at_end : (b : Bool) (i : ℕ) → AtEnd n i → Present b 0 → (i + 1 ≡ n → Present b i) → Present b i
+  at_end b i a x y = le_or_lt 1 i (Present b i) (λ h. y (a h)) (λ h. let e : 0 ≡ i = omega arith in subst (Present b) e x)
 
-  pub held-present : k ≡ Held → (i : ℕ) → AtEnd n i → Present true i
-  unfolding heldStartRow heldEndRow
-  held-present q i a = at-end true i a (ap (λ (r : Row). r.present) (held-start-row q)) (λ h. ap (λ (r : Row). r.present) (held-end-row q i h))
+  pub held_present : k ≡ Held → (i : ℕ) → AtEnd n i → Present true i
+  unfolding held_start_row held_end_row
+  held_present q i a = at_end true i a (ap (λ (r : Row). r.present) (held_start_row_lem q)) (λ h. ap (λ (r : Row). r.present) (held_end_row_lem q i h))
 
-  pub free-absent : k ≡ Free → (i : ℕ) → AtEnd n i → Present false i
-  unfolding freeRow
-  free-absent q i a = at-end false i a (ap (λ (r : Row). r.present) (free-start-row q)) (λ h. ap (λ (r : Row). r.present) (free-end-row q i h))
+  pub free_absent : k ≡ Free → (i : ℕ) → AtEnd n i → Present false i
+  unfolding free_row
+  free_absent q i a = at_end false i a (ap (λ (r : Row). r.present) (free_start_row q)) (λ h. ap (λ (r : Row). r.present) (free_end_row q i h))

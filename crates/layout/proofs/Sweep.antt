@@ -10,31 +10,31 @@ use lib.ListN.{length, set}
 use lib.Seq.{get_or-set_same, set-get_or}
 use mir.Syntax.{w64}
 use mir.Val.{to_z, of_z}
-use Rattle.integers.proofs.Machine.{fits-abs, back}
+use Rattle.integers.proofs.Machine.{fits_abs, back}
 use Rattle.ends.specs.declared.EndKind.{EndKind}
 use Rattle.ends.specs.declared.EndKind.TheVariants.{Free, Held, Closed}
 use Rattle.rounding.specs.Rounded.{rounded}
 use Rattle.systems.specs.Rows.{Row, Rows}
 use Rattle.systems.specs.Passes.{at, target, renewed, turn, sweep, pass}
 use Rattle.systems.proofs.Lists as systems
-use Rattle.systems.proofs.Lists.{sweep-next, length-sweep}
+use Rattle.systems.proofs.Lists.{sweep_next, length_sweep}
 use Rattle.spline.specs.Spline.{Course, next, prev, row_of, rows_by, rows}
-use Rattle.spline.proofs.Bends.{bends-bounded}
+use Rattle.spline.proofs.Bends.{bends_bounded}
 use Rattle.layout.specs.Course.{course}
-use Rattle.layout.specs.Inside.{OnSheet, Inner, Reached, Small, AllSmall, codeRow}
+use Rattle.layout.specs.Inside.{OnSheet, Inner, Reached, Small, AllSmall, code_row}
 use Rattle.layout.specs.declared.row.Row as code
 use Rattle.integers.proofs.Made.{read}
 use Rattle.layout.proofs.Given.{in_bounds}
-use Rattle.layout.proofs.Passes.{passes-length}
-use Rattle.layout.proofs.Rows.{told-kind}
+use Rattle.layout.proofs.Passes.{passes_length}
+use Rattle.layout.proofs.Rows.{told_kind}
 
 -- a bend number that is read back
-pub small-kept : (z : ℤ) → Small z → read z ≡ z
-small-kept z h = back refl (fits-abs z (omega arith))
+pub small_kept : (z : ℤ) → Small z → read z ≡ z
+small_kept z h = back refl (fits_abs z (omega arith))
 
 module _ {n : ℕ} {z : List ℤ} (a : AllSmall n z) where
   pub kept : (j : ℕ) → j < n → read (at z j) ≡ at z j
-  kept j h = small-kept (at z j) (a.small j h)
+  kept j h = small_kept (at z j) (a.small j h)
 
   -- a number that the machine holds as x, set where the same one was
   pub unmoved : (x : ℤ) (i : ℕ) → i < n → of_z w64 x ≡ of_z w64 (at z i) → set z i (read x) ≡ z
@@ -55,16 +55,16 @@ pub record Through (s : List ℕ) (axis : ℕ) (z₀ z : List ℤ) (changed : Bo
   pub same : changed ≡ false → z ≡ z₀
 
 module _ {s : List ℕ} {axis : ℕ} where
-  pub through-start : (z₀ : List ℤ) → Through s axis z₀ z₀ false 0
+  pub through_start : (z₀ : List ℤ) → Through s axis z₀ z₀ false 0
   unfolding sweep
-  through-start z₀ = record { swept = refl; same = λ e. refl }
+  through_start z₀ = record { swept = refl; same = λ e. refl }
 
-  pub through-turn : {z₀ z : List ℤ} {changed : Bool} {i : ℕ} → Through s axis z₀ z changed i
+  pub through_turn : {z₀ z : List ℤ} {changed : Bool} {i : ℕ} → Through s axis z₀ z changed i
       → (z' : List ℤ) → z' ≡ turn (rows (course s axis)) 65536 z i
       → (now : Bool) → (now ≡ false → (changed ≡ false) × (z' ≡ z)) → Through s axis z₀ z' now (i + 1)
-  through-turn {z₀} {i = i} t z' e now f =
+  through_turn {z₀} {i = i} t z' e now f =
       let R = rows (course s axis) in record {
-        swept = e ∙ ap (λ (l : List ℤ). turn R 65536 l i) t.swept ∙ sym (ap (λ (m : ℕ). sweep R 65536 m z₀) (add-one i) ∙ sweep-next R 65536 i z₀);
+        swept = e ∙ ap (λ (l : List ℤ). turn R 65536 l i) t.swept ∙ sym (ap (λ (m : ℕ). sweep R 65536 m z₀) (add-one i) ∙ sweep_next R 65536 i z₀);
         same = λ g. (f g).1 ∙ t.same (f g).0;
       }
 
@@ -77,36 +77,36 @@ module _ {s : List ℕ} {k : EndKind} {n axis : ℕ} (o : OnSheet s k n axis) wh
 
   row_is : (i : ℕ) → R.row i ≡ row_of 2 1 k c i
   unfolding rows_by
-  row_is i = sym (told-kind o i)
+  row_is i = sym (told_kind o i)
 
   -- what a turn works out is the definition's number
-  pub turn-renews : (zs : List ℤ) (i : ℕ) (r : code.Row) (left right : ℤ)
-      → r ≡ codeRow (row_of 2 1 k c i) → left ≡ at zs (prev c i) → right ≡ at zs (next c i)
+  pub turn_renews : (zs : List ℤ) (i : ℕ) (r : code.Row) (left right : ℤ)
+      → r ≡ code_row (row_of 2 1 k c i) → left ≡ at zs (prev c i) → right ≡ at zs (next c i)
       → rounded (pos 65536 *ℤ r.right -ℤ r.before *ℤ left -ℤ r.after *ℤ right) (nat_abs r.middle) ≡ renewed R 65536 zs i
   unfolding target renewed rows_by
-  turn-renews zs i r left right e l q =
-      let f = e ∙ ap codeRow (sym (row_is i)) in
+  turn_renews zs i r left right e l q =
+      let f = e ∙ ap code_row (sym (row_is i)) in
       λ j. rounded (pos 65536 *ℤ (f j).right -ℤ (f j).before *ℤ l j -ℤ (f j).after *ℤ q j) (nat_abs (f j).middle)
 
   -- the turn where there is a row, and where there is none
-  pub turn-present : (zs : List ℤ) (i : ℕ) → (row_of 2 1 k c i).present ≡ true → turn R 65536 zs i ≡ set zs i (renewed R 65536 zs i)
-  turn-present zs i e = systems.turn-present R 65536 zs i (ap (λ (r : Row). r.present) (row_is i) ∙ e)
+  pub turn_present : (zs : List ℤ) (i : ℕ) → (row_of 2 1 k c i).present ≡ true → turn R 65536 zs i ≡ set zs i (renewed R 65536 zs i)
+  turn_present zs i e = systems.turn_present R 65536 zs i (ap (λ (r : Row). r.present) (row_is i) ∙ e)
 
-  pub turn-absent : (zs : List ℤ) (i : ℕ) → (row_of 2 1 k c i).present ≡ false → turn R 65536 zs i ≡ zs
-  turn-absent zs i e = systems.turn-absent R 65536 zs i (ap (λ (r : Row). r.present) (row_is i) ∙ e)
+  pub turn_absent : (zs : List ℤ) (i : ℕ) → (row_of 2 1 k c i).present ≡ false → turn R 65536 zs i ≡ zs
+  turn_absent zs i e = systems.turn_absent R 65536 zs i (ap (λ (r : Row). r.present) (row_is i) ∙ e)
 
-  pub through-end : {z₀ z : List ℤ} {changed : Bool} {i : ℕ} → Through s axis z₀ z changed i → i ≡ n → (z ≡ pass R 65536 z₀) × (changed ≡ false → z ≡ z₀)
+  pub through_end : {z₀ z : List ℤ} {changed : Bool} {i : ℕ} → Through s axis z₀ z changed i → i ≡ n → (z ≡ pass R 65536 z₀) × (changed ≡ false → z ≡ z₀)
   unfolding pass rows_by course
-  through-end {z₀} t e = (t.swept ∙ ap (λ (j : ℕ). sweep R 65536 j z₀) (e ∙ o.samePoints), t.same)
+  through_end {z₀} t e = (t.swept ∙ ap (λ (j : ℕ). sweep R 65536 j z₀) (e ∙ o.same_points), t.same)
 
-  pub start-length : (z₀ : List ℤ) → Reached s axis z₀ → length z₀ ≡ n
-  start-length z₀ reached = ap length reached.numbers ∙ passes-length s axis reached.count ∙ sym o.samePoints
+  pub start_length : (z₀ : List ℤ) → Reached s axis z₀ → length z₀ ≡ n
+  start_length z₀ reached = ap length reached.numbers ∙ passes_length s axis reached.count ∙ sym o.same_points
 
-  pub through-small : {z₀ z : List ℤ} {changed : Bool} {i : ℕ} → Reached s axis z₀ → Through s axis z₀ z changed i → i ≤ n → AllSmall n z
+  pub through_small : {z₀ z : List ℤ} {changed : Bool} {i : ℕ} → Reached s axis z₀ → Through s axis z₀ z changed i → i ≤ n → AllSmall n z
   unfolding course
-  through-small {z₀} {i = i} reached t h = record {
-    size = ap length t.swept ∙ length-sweep R 65536 i z₀ ∙ start-length z₀ reached;
+  through_small {z₀} {i = i} reached t h = record {
+    size = ap length t.swept ∙ length_sweep R 65536 i z₀ ∙ start_length z₀ reached;
     small = λ j l.
         rw (t.swept, reached.numbers)
-        (bends-bounded c (in_bounds o) reached.count i j (omega (arith, o.samePoints)) (omega (arith, o.samePoints)));
+        (bends_bounded c (in_bounds o) reached.count i j (omega (arith, o.same_points)) (omega (arith, o.same_points)));
   }

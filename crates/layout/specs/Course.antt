@@ -9,6 +9,6 @@ course s axis = record {
   points = points s;
   leg = leg s;
   value = waypoint s axis;
-  startSlope = slope s axis 0;
-  endSlope = slope s axis 1;
+  start_slope = slope s axis 0;
+  end_slope = slope s axis 1;
 }

@@ -15,9 +15,9 @@ use Rattle.layout.specs.declared.row.EndRow.TheVariants.{Absent, Present}
 -- the sheet has the bounds of an accepted one, its kind is k and its N is n; and the axis is one of three
 pub record OnSheet (s : List ℕ) (k : EndKind) (n axis : ℕ) : Type 0 where
   pub bounds : Bounds s
-  pub sameKind : k ≡ kind s
-  pub samePoints : n ≡ points s
-  pub axisFits : axis < 3
+  pub same_kind : k ≡ kind s
+  pub same_points : n ≡ points s
+  pub axis_fits : axis < 3
 
 -- of n waypoints i is the first, or else the last
 abbrev pub AtEnd : ℕ → ℕ → Type 0
@@ -30,8 +30,8 @@ Inner Held n i = (1 ≤ i) × (i + 1 < n)
 Inner Closed n i = i < n
 
 -- the code's row of a row that is present
-abbrev pub codeRow : systems.Row → Row
-codeRow r = record { before = pos r.before; middle = pos r.middle; after = pos r.after; right = r.right }
+abbrev pub code_row : systems.Row → Row
+code_row r = record { before = pos r.before; middle = pos r.middle; after = pos r.after; right = r.right }
 
 -- a leg: 1 to 256
 pub record Leg (h : ℤ) : Type 0 where
@@ -49,7 +49,7 @@ pub record Sized (r : Row) : Type 0 where
 -- the code's answer for an end: no row, or the code's row of one that is present
 abbrev pub RowOfEnd : EndRow → systems.Row → Type 0
 RowOfEnd Absent r = r.present ≡ false
-RowOfEnd (Present w) r = (r.present ≡ true) × (w ≡ codeRow r) × Sized w
+RowOfEnd (Present w) r = (r.present ≡ true) × (w ≡ code_row r) × Sized w
 
 -- the bound on every bend number in every pass: 65,536 × 2,005,000
 abbrev pub Small : ℤ → Type 0
@@ -61,10 +61,10 @@ pub record AllSmall (n : ℕ) (z : List ℤ) : Type 0 where
   pub small : (j : ℕ) → j < n → Small (at z j)
 
 -- the numbers on an axis after m passes from zeros
-abbrev pub afterPasses : List ℕ → ℕ → ℕ → List ℤ
-afterPasses s axis m = passes (rows (course s axis)) 65536 m (replicate (points s) (pos 0))
+abbrev pub after_passes : List ℕ → ℕ → ℕ → List ℤ
+after_passes s axis m = passes (rows (course s axis)) 65536 m (replicate (points s) (pos 0))
 
 -- the numbers of some count of passes
 pub record Reached (s : List ℕ) (axis : ℕ) (z : List ℤ) : Type 0 where
   pub count : ℕ
-  pub numbers : z ≡ afterPasses s axis count
+  pub numbers : z ≡ after_passes s axis count

@@ -3,9 +3,9 @@ mod pass;
 mod row;
 
 ghost use Rattle.std.specs.Prelude.{◌≡◌, ◌++◌, ℕ, ◌*◌, ◌≤◌, ◌<◌, length, drop};
-ghost use Rattle.answers.specs.Answers.{toldOutcome};
+ghost use Rattle.answers.specs.Answers.{told_outcome};
 ghost use Rattle.layout.specs.Inside.{OnSheet};
-ghost use Rattle.layout.specs.Layout.{allBends, layOut, laidOut, layOutBy, laidOutBy};
+ghost use Rattle.layout.specs.Layout.{all_bends, lay_out, laid_out, lay_out_by, laid_out_by};
 
 use answers::Outcome;
 use ends::EndKind;
@@ -14,7 +14,7 @@ use sheet::{Reading, Refusal};
 // L5, F3: each axis is handed its own part of the list, from 0, N and 2N.
 fn lay_axes(s: &[u8], kind: EndKind, n: usize, list: &mut [i64])
     requires { ((axis : ℕ) → axis < 3 → OnSheet s.now kind n axis) × (3 * n ≤ length list.old) }
-    ensures { list.new ≡ allBends s.now ++ drop (3 * n) list.old }
+    ensures { list.new ≡ all_bends s.now ++ drop (3 * n) list.old }
 {
     let east = n;
     let up = 2 * n;
@@ -26,8 +26,8 @@ fn lay_axes(s: &[u8], kind: EndKind, n: usize, list: &mut [i64])
 
 // Lays the sheet's bend numbers out in the lent list (A3), of sheets with up to `limit` waypoints. Tests 1 to 9; a refused call leaves the list as it is.
 pub fn lay_out_by(limit: usize, s: &[u8], list: &mut [i64]) -> Outcome
-    ensures answer { toldOutcome result ≡ layOutBy limit s.now (length list.old) }
-    ensures list { list.new ≡ laidOutBy limit s.now list.old }
+    ensures answer { told_outcome result ≡ lay_out_by limit s.now (length list.old) }
+    ensures list { list.new ≡ laid_out_by limit s.now list.old }
 {
     let reading = sheet::read_by(limit, s);
     let Reading::Course {
@@ -47,8 +47,8 @@ pub fn lay_out_by(limit: usize, s: &[u8], list: &mut [i64]) -> Outcome
 
 // The station's laying out.
 pub fn lay_out(s: &[u8], list: &mut [i64]) -> Outcome
-    ensures answer { toldOutcome result ≡ layOut s.now (length list.old) }
-    ensures list { list.new ≡ laidOut s.now list.old }
+    ensures answer { told_outcome result ≡ lay_out s.now (length list.old) }
+    ensures list { list.new ≡ laid_out s.now list.old }
 {
     lay_out_by(sheet::MOST_POINTS, s, list)
 }

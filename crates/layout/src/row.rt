@@ -3,9 +3,9 @@ ghost use Rattle.std.specs.Prelude.{◌≡◌, ◌≤◌, ◌<◌, pos, nat_abs,
 ghost use Rattle.ends.specs.declared.EndKind.TheVariants.{Held};
 ghost use Rattle.sheet.specs.Fields.{legs, leg, waypoint, slope};
 ghost use Rattle.sheet.specs.Theorems.{Bounds};
-ghost use Rattle.spline.specs.Spline.{Course, prev, innerRow, heldStartRow, heldEndRow, row_of};
+ghost use Rattle.spline.specs.Spline.{Course, prev, inner_row, held_start_row, held_end_row, row_of};
 ghost use Rattle.layout.specs.Course.{course};
-ghost use Rattle.layout.specs.Inside.{OnSheet, AtEnd, Inner, codeRow, RowOfEnd, Sized, Leg};
+ghost use Rattle.layout.specs.Inside.{OnSheet, AtEnd, Inner, code_row, RowOfEnd, Sized, Leg};
 
 use ends::EndKind;
 
@@ -68,7 +68,7 @@ pub fn before(i: usize, n: usize) -> usize
 // R2. The middle factor is twice the outer ones together, by R6.
 fn inner(g: i64, h: i64, d: i64, e: i64) -> Row
     requires { Leg g × Leg h × (nat_abs d ≤ 2_000_000) × (nat_abs e ≤ 2_000_000) }
-    ensures { (result ≡ codeRow (innerRow 2 1 (nat_abs g) (nat_abs h) d e)) × Sized result }
+    ensures { (result ≡ code_row (inner_row 2 1 (nat_abs g) (nat_abs h) d e)) × Sized result }
 {
     let before = g * g * h;
     let after = g * h * h;
@@ -83,7 +83,7 @@ fn inner(g: i64, h: i64, d: i64, e: i64) -> Row
 // R4.
 fn held_start(h: i64, d: i64, p: i64) -> Row
     requires { Leg h × (nat_abs d ≤ 2_000_000) × (nat_abs p ≤ 5_000) }
-    ensures { (result ≡ codeRow (heldStartRow 2 1 (nat_abs h) d p)) × Sized result }
+    ensures { (result ≡ code_row (held_start_row 2 1 (nat_abs h) d p)) × Sized result }
 {
     Row {
         before: 0,
@@ -96,7 +96,7 @@ fn held_start(h: i64, d: i64, p: i64) -> Row
 // R5.
 fn held_end(g: i64, e: i64, p: i64) -> Row
     requires { Leg g × (nat_abs e ≤ 2_000_000) × (nat_abs p ≤ 5_000) }
-    ensures { (result ≡ codeRow (heldEndRow 2 1 (nat_abs g) e p)) × Sized result }
+    ensures { (result ≡ code_row (held_end_row 2 1 (nat_abs g) e p)) × Sized result }
 {
     Row {
         before: g * g,
@@ -109,7 +109,7 @@ fn held_end(g: i64, e: i64, p: i64) -> Row
 // A waypoint between two legs; round the end where the course is closed (X2).
 pub fn inner_at(s: &[u8], kind: EndKind, n: usize, axis: usize, i: usize) -> Row
     requires { OnSheet s.now kind n axis × Inner kind n i }
-    ensures { (result ≡ codeRow (row_of 2 1 kind (course s.now axis) i)) × Sized result }
+    ensures { (result ≡ code_row (row_of 2 1 kind (course s.now axis) i)) × Sized result }
 {
     let p = before(i, n);
     let d = value_step(s, kind, n, axis, i, sheet::end_of(n, i));
@@ -120,7 +120,7 @@ pub fn inner_at(s: &[u8], kind: EndKind, n: usize, axis: usize, i: usize) -> Row
 // An end of a held course: the first waypoint, or else the last.
 fn held_at(s: &[u8], n: usize, axis: usize, i: usize) -> Row
     requires { OnSheet s.now Held n axis × AtEnd n i }
-    ensures { (result ≡ codeRow (row_of 2 1 Held (course s.now axis) i)) × Sized result }
+    ensures { (result ≡ code_row (row_of 2 1 Held (course s.now axis) i)) × Sized result }
 {
     let kind = EndKind::Held;
     if i == 0 {

@@ -3,10 +3,10 @@ use mathlib.Core.Path.{refl}
 use Rattle.lines.specs.Lines.{decimal, signed, line}
 use Rattle.lines.specs.Theorems.{LineOne, LineMinus}
 
-pub line-one : LineOne
+pub line_one : LineOne
 unfolding decimal signed line
-line-one = refl
+line_one = refl
 
-pub line-minus : LineMinus
+pub line_minus : LineMinus
 unfolding decimal signed line
-line-minus = refl
+line_minus = refl

@@ -2,13 +2,13 @@
 use Rattle.std.specs.Prelude.{cond, List, [], ◌∷◌, ◌++◌, ℕ, zero, suc, ◌+◌, ◌/◌, ◌%◌, ltb, ℤ, pos, negsuc}
 
 -- the decimal digits of n, at most `most` of them: those of n / 10, where n has more than one, and then the last. 48 is the code of the digit 0
-abbrev pub digitsWithin : ℕ → ℕ → List ℕ
-digitsWithin zero n = []
-digitsWithin (suc most) n = cond (ltb n 10) [] (digitsWithin most (n / 10)) ++ ((48 + n % 10) ∷ [])
+abbrev pub digits_within : ℕ → ℕ → List ℕ
+digits_within zero n = []
+digits_within (suc most) n = cond (ltb n 10) [] (digits_within most (n / 10)) ++ ((48 + n % 10) ∷ [])
 
 -- T3, decimal: a number of 64 bits has at most twenty digits
 unfoldable pub decimal : ℕ → List ℕ
-decimal n = digitsWithin 20 n
+decimal n = digits_within 20 n
 
 -- T3, below 0 a minus first: 45 is its code
 unfoldable pub signed : ℤ → List ℕ

@@ -1,51 +1,51 @@
 -- What writing a sheet answers (A11, G2 to G4), refused calls too. For lists, writer, join and exports.
 use Rattle.std.specs.Prelude.{Bool, not, ◌||◌, List, [], ◌∷◌, ℕ, ◌*◌, ltb, eqb, ℤ, pos, length, get_or}
-use Rattle.ends.specs.Ends.{legCount, leastPoints}
+use Rattle.ends.specs.Ends.{leg_count, least_points}
 use Rattle.sheet.specs.Answers.{Told, refused}
-use Rattle.sheet.specs.Bytes.{anyBelow}
-use Rattle.sheet.specs.Reading.{legOutside, reachOutside, slopeOutside, mostPoints}
+use Rattle.sheet.specs.Bytes.{any_below}
+use Rattle.sheet.specs.Reading.{leg_outside, reach_outside, slope_outside, most_points}
 use Rattle.sheet.specs.declared.Refusal.TheVariants.{Ends, Points, Size, Leg, Reach, Slope, Page}
 use Rattle.answers.specs.Answers.{guard}
-use Rattle.lists.specs.Lists.{Lists, kindIn, pointsIn, numberOn, slopeCount, size_of}
+use Rattle.lists.specs.Lists.{Lists, kind_in, points_in, number_on, slope_count, size_of}
 use Rattle.lists.specs.declared.Written.{Written}
 use Rattle.lists.specs.declared.Written.TheVariants.{Length, Refused}
 
 -- N3, of a kind's number of any size
-abbrev pub kindOutside : Lists → Bool
-kindOutside c = ltb 2 c.kind
+abbrev pub kind_outside : Lists → Bool
+kind_outside c = ltb 2 c.kind
 
 -- N4
-abbrev pub pointsOutside : Lists → Bool
-pointsOutside c = ltb (pointsIn c.waypoints) (leastPoints (kindIn c)) || ltb mostPoints (pointsIn c.waypoints)
+abbrev pub points_outside : Lists → Bool
+points_outside c = ltb (points_in c.waypoints) (least_points (kind_in c)) || ltb most_points (points_in c.waypoints)
 
 -- N5, of lists (G3): a waypoint number left over, not L legs, or not the kind's slopes
-abbrev pub countsDiffer : Lists → Bool
-countsDiffer c =
-    not (eqb (length c.waypoints) (3 * pointsIn c.waypoints))
-    || not (eqb (length c.legs) (legCount (kindIn c) (pointsIn c.waypoints)))
-    || not (eqb (length c.slopes) (slopeCount (kindIn c)))
+abbrev pub counts_differ : Lists → Bool
+counts_differ c =
+    not (eqb (length c.waypoints) (3 * points_in c.waypoints))
+    || not (eqb (length c.legs) (leg_count (kind_in c) (points_in c.waypoints)))
+    || not (eqb (length c.slopes) (slope_count (kind_in c)))
 
 -- N6 to N8, each of its whole list: the reader's own tests of one number
-abbrev pub someLegOutside : List ℕ → Bool
-someLegOutside hs = anyBelow (λ i. legOutside (get_or hs i 0)) (length hs)
+abbrev pub some_leg_outside : List ℕ → Bool
+some_leg_outside hs = any_below (λ i. leg_outside (get_or hs i 0)) (length hs)
 
-abbrev pub someReachOutside : List ℤ → Bool
-someReachOutside ws = anyBelow (λ i. anyBelow (λ axis. reachOutside axis (numberOn ws axis i)) 3) (pointsIn ws)
+abbrev pub some_reach_outside : List ℤ → Bool
+some_reach_outside ws = any_below (λ i. any_below (λ axis. reach_outside axis (number_on ws axis i)) 3) (points_in ws)
 
-abbrev pub someSlopeOutside : List ℤ → Bool
-someSlopeOutside ps = anyBelow (λ i. slopeOutside (get_or ps i (pos 0))) (length ps)
+abbrev pub some_slope_outside : List ℤ → Bool
+some_slope_outside ps = any_below (λ i. slope_outside (get_or ps i (pos 0))) (length ps)
 
 -- F8: the number and values of each answer; the value is the sheet's length (A11)
-abbrev pub toldWritten : Written → Told
-toldWritten (Length n) = record { number = 0; values = pos n ∷ [] }
-toldWritten (Refused r) = refused r
+abbrev pub told_written : Written → Told
+told_written (Length n) = record { number = 0; values = pos n ∷ [] }
+told_written (Refused r) = refused r
 
 -- G3: 6 to 8 and then 14, of lists that make a sheet of `size` bytes and a slice of `room`
-abbrev pub writeNumbers : ℕ → List ℕ → List ℤ → List ℤ → ℕ → Told
-writeNumbers size hs ws ps room =
-    guard (someLegOutside hs) Leg (guard (someReachOutside ws) Reach (guard (someSlopeOutside ps) Slope (guard (ltb room size) Page (toldWritten (Length size)))))
+abbrev pub write_numbers : ℕ → List ℕ → List ℤ → List ℤ → ℕ → Told
+write_numbers size hs ws ps room =
+    guard (some_leg_outside hs) Leg (guard (some_reach_outside ws) Reach (guard (some_slope_outside ps) Slope (guard (ltb room size) Page (told_written (Length size)))))
 
 -- A11: the answer
-unfoldable pub writeSheet : Lists → ℕ → Told
-writeSheet c room =
-    guard (kindOutside c) Ends (guard (pointsOutside c) Points (guard (countsDiffer c) Size (writeNumbers (size_of c) c.legs c.waypoints c.slopes room)))
+unfoldable pub write_sheet : Lists → ℕ → Told
+write_sheet c room =
+    guard (kind_outside c) Ends (guard (points_outside c) Points (guard (counts_differ c) Size (write_numbers (size_of c) c.legs c.waypoints c.slopes room)))

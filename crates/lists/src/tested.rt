@@ -1,9 +1,9 @@
 // The tests before anything is written (G3, G4); those of one number are crate sheet's.
 ghost use Rattle.std.specs.Prelude.{◌≡◌, ◌+◌, ◌≤◌, pos, length, get_or};
-ghost use Rattle.sheet.specs.Bytes.{anyBelow};
-ghost use Rattle.sheet.specs.Reading.{legOutside, reachOutside};
-ghost use Rattle.lists.specs.Lists.{lists, slopeCount};
-ghost use Rattle.lists.specs.Answer.{someLegOutside, someReachOutside, someSlopeOutside, toldWritten, writeNumbers, writeSheet};
+ghost use Rattle.sheet.specs.Bytes.{any_below};
+ghost use Rattle.sheet.specs.Reading.{leg_outside, reach_outside};
+ghost use Rattle.lists.specs.Lists.{lists, slope_count};
+ghost use Rattle.lists.specs.Answer.{some_leg_outside, some_reach_outside, some_slope_outside, told_written, write_numbers, write_sheet};
 
 use crate::Written;
 use ends::EndKind;
@@ -12,7 +12,7 @@ use sheet::{MOST_POINTS, Refusal};
 // N6, of the four legs from `at` on.
 fn four_outside(legs: &[u64], at: usize) -> bool
     requires { at + 4 ≤ length legs.now }
-    ensures { result ≡ anyBelow (λ k. legOutside (get_or legs.now (at + k) 0)) 4 }
+    ensures { result ≡ any_below (λ k. leg_outside (get_or legs.now (at + k) 0)) 4 }
 {
     sheet::leg_outside(legs[at])
         | sheet::leg_outside(legs[at + 1])
@@ -22,7 +22,7 @@ fn four_outside(legs: &[u64], at: usize) -> bool
 
 // N6, of all legs: four a turn, which takes a third of the time, and then those that are left.
 fn legs_outside(legs: &[u64]) -> bool
-    ensures { result ≡ someLegOutside legs.now }
+    ensures { result ≡ some_leg_outside legs.now }
 {
     let count = legs.len();
     let mut i = 0;
@@ -44,7 +44,7 @@ fn legs_outside(legs: &[u64]) -> bool
 // N7, of the waypoint whose numbers start at `at`.
 fn waypoint_outside(waypoints: &[i64], at: usize) -> bool
     requires { at + 3 ≤ length waypoints.now }
-    ensures { result ≡ anyBelow (λ axis. reachOutside axis (get_or waypoints.now (at + axis) (pos 0))) 3 }
+    ensures { result ≡ any_below (λ axis. reach_outside axis (get_or waypoints.now (at + axis) (pos 0))) 3 }
 {
     if sheet::reach_outside(0, waypoints[at]) {
         return true;
@@ -57,7 +57,7 @@ fn waypoint_outside(waypoints: &[i64], at: usize) -> bool
 
 // N7, of all waypoints; numbers behind the last whole waypoint are not asked.
 fn waypoints_outside(waypoints: &[i64]) -> bool
-    ensures { result ≡ someReachOutside waypoints.now }
+    ensures { result ≡ some_reach_outside waypoints.now }
 {
     let count = waypoints.len() / 3;
     let mut i = 0;
@@ -72,7 +72,7 @@ fn waypoints_outside(waypoints: &[i64]) -> bool
 
 // N8, of all slopes.
 fn slopes_outside(slopes: &[i64]) -> bool
-    ensures { result ≡ someSlopeOutside slopes.now }
+    ensures { result ≡ some_slope_outside slopes.now }
 {
     let count = slopes.len();
     let mut i = 0;
@@ -87,7 +87,7 @@ fn slopes_outside(slopes: &[i64]) -> bool
 
 // S8: how many slopes a kind has.
 fn slope_count(kind: EndKind) -> usize
-    ensures { result ≡ slopeCount kind }
+    ensures { result ≡ slope_count kind }
 {
     match kind {
         EndKind::Free => 0,
@@ -104,7 +104,7 @@ fn answer_numbers(
     slopes: &[i64],
     room: usize,
 ) -> Written
-    ensures { toldWritten result ≡ writeNumbers size legs.now waypoints.now slopes.now room }
+    ensures { told_written result ≡ write_numbers size legs.now waypoints.now slopes.now room }
 {
     if legs_outside(legs) {
         return Written::Refused(Refusal::Leg);
@@ -123,7 +123,7 @@ fn answer_numbers(
 
 // The answer of writing into `room` bytes: 3 to 5 here, then the numbers.
 pub fn answer(kind: u64, legs: &[u64], waypoints: &[i64], slopes: &[i64], room: usize) -> Written
-    ensures { toldWritten result ≡ writeSheet (lists kind legs.now waypoints.now slopes.now) room }
+    ensures { told_written result ≡ write_sheet (lists kind legs.now waypoints.now slopes.now) room }
 {
     if 2 < kind {
         return Written::Refused(Refusal::Ends);

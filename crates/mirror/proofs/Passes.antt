@@ -9,7 +9,7 @@ use lib.IntN.{ℤ, pos, neg_ℤ, ◌-ℤ◌, ◌*ℤ◌}
 use lib.ListN.{set, replicate, get_or-map}
 use Rattle.integers.proofs.Ring.{solve, ◌≋◌, ◌⊖◌, ◌⊗◌, ⊝◌}
 use Rattle.rounding.specs.Rounded.{rounded}
-use Rattle.rounding.proofs.Laws.{rounded-mirrored}
+use Rattle.rounding.proofs.Laws.{rounded_mirrored}
 use Rattle.systems.specs.Rows.{Row, Rows}
 use Rattle.systems.specs.Passes.{at, target, renewed, turn, sweep, pass, passes}
 use Rattle.mirror.specs.Images.{negated, MirrorRows}
@@ -17,18 +17,18 @@ use Rattle.mirror.specs.Theorems.{PassesMirrored}
 use Rattle.mirror.proofs.Worked as worked
 
 -- ---- lists
-negated-set : (zs : List ℤ) (i : ℕ) (z : ℤ) → set (negated zs) i (neg_ℤ z) ≡ negated (set zs i z)
-negated-set [] i z = refl
-negated-set (x ∷ xs) zero z = refl
-negated-set (x ∷ xs) (suc i) z = ap (λ (l : List ℤ). neg_ℤ x ∷ l) (negated-set xs i z)
+negated_set : (zs : List ℤ) (i : ℕ) (z : ℤ) → set (negated zs) i (neg_ℤ z) ≡ negated (set zs i z)
+negated_set [] i z = refl
+negated_set (x ∷ xs) zero z = refl
+negated_set (x ∷ xs) (suc i) z = ap (λ (l : List ℤ). neg_ℤ x ∷ l) (negated_set xs i z)
 
-pub at-negated : (zs : List ℤ) (i : ℕ) → at (negated zs) i ≡ neg_ℤ (at zs i)
-at-negated zs i = get_or-map neg_ℤ zs i (pos 0)
+pub at_negated : (zs : List ℤ) (i : ℕ) → at (negated zs) i ≡ neg_ℤ (at zs i)
+at_negated zs i = get_or-map neg_ℤ zs i (pos 0)
 
 -- zeros are their own image
-pub negated-zeros : (n : ℕ) → negated (replicate n (pos 0)) ≡ replicate n (pos 0)
-negated-zeros zero = refl
-negated-zeros (suc n) = ap (λ (l : List ℤ). pos 0 ∷ l) (negated-zeros n)
+pub negated_zeros : (n : ℕ) → negated (replicate n (pos 0)) ≡ replicate n (pos 0)
+negated_zeros zero = refl
+negated_zeros (suc n) = ap (λ (l : List ℤ). pos 0 ∷ l) (negated_zeros n)
 
 -- ---- passes
 module _ (R S : Rows) (mirror : MirrorRows R S) (c : ℕ) where
@@ -36,37 +36,37 @@ module _ (R S : Rows) (mirror : MirrorRows R S) (c : ℕ) where
     abbrev r : Row
     r = R.row i
 
-    target-mirrored : target S c (negated zs) i ≡ neg_ℤ (target R c zs i)
+    target_mirrored : target S c (negated zs) i ≡ neg_ℤ (target R c zs i)
     unfolding target
-    target-mirrored =
+    target_mirrored =
         (λ j. let q = mirror.row i h j in
         pos c *ℤ q.right -ℤ pos q.before *ℤ at (negated zs) (mirror.prev i h j) -ℤ pos q.after *ℤ at (negated zs) (mirror.next i h j))
-        ∙ (λ j. pos c *ℤ neg_ℤ r.right -ℤ pos r.before *ℤ at-negated zs (R.prev i) j -ℤ pos r.after *ℤ at-negated zs (R.next i) j)
+        ∙ (λ j. pos c *ℤ neg_ℤ r.right -ℤ pos r.before *ℤ at_negated zs (R.prev i) j -ℤ pos r.after *ℤ at_negated zs (R.next i) j)
         ∙ solve 6 (λ c e b x a y. c ⊗ ⊝ e ⊖ b ⊗ ⊝ x ⊖ a ⊗ ⊝ y ≋ ⊝ (c ⊗ e ⊖ b ⊗ x ⊖ a ⊗ y)) tt
         (pos c) r.right (pos r.before) (at zs (R.prev i)) (pos r.after) (at zs (R.next i))
 
-    renewed-mirrored : renewed S c (negated zs) i ≡ neg_ℤ (renewed R c zs i)
+    renewed_mirrored : renewed S c (negated zs) i ≡ neg_ℤ (renewed R c zs i)
     unfolding renewed
-    renewed-mirrored = (λ j. rounded (target-mirrored j) (mirror.row i h j).middle) ∙ rounded-mirrored (target R c zs i) r.middle
+    renewed_mirrored = (λ j. rounded (target_mirrored j) (mirror.row i h j).middle) ∙ rounded_mirrored (target R c zs i) r.middle
 
-    turn-mirrored : turn S c (negated zs) i ≡ negated (turn R c zs i)
+    turn_mirrored : turn S c (negated zs) i ≡ negated (turn R c zs i)
     unfolding turn
-    turn-mirrored = (λ j. cond (mirror.row i h j).present (set (negated zs) i (renewed-mirrored j)) (negated zs)) ∙ go r.present
+    turn_mirrored = (λ j. cond (mirror.row i h j).present (set (negated zs) i (renewed_mirrored j)) (negated zs)) ∙ go r.present
       where
         go : (b : Bool) → cond b (set (negated zs) i (neg_ℤ (renewed R c zs i))) (negated zs) ≡ negated (cond b (set zs i (renewed R c zs i)) zs)
-        go true = negated-set zs i (renewed R c zs i)
+        go true = negated_set zs i (renewed R c zs i)
         go false = refl
 
-  sweep-mirrored : (i : ℕ) (zs : List ℤ) → i ≤ R.size → sweep S c i (negated zs) ≡ negated (sweep R c i zs)
+  sweep_mirrored : (i : ℕ) (zs : List ℤ) → i ≤ R.size → sweep S c i (negated zs) ≡ negated (sweep R c i zs)
   unfolding sweep
-  sweep-mirrored zero zs h = refl
-  sweep-mirrored (suc i) zs h = ap (λ (l : List ℤ). turn S c l i) (sweep-mirrored i zs (omega arith)) ∙ turn-mirrored (sweep R c i zs) i h
+  sweep_mirrored zero zs h = refl
+  sweep_mirrored (suc i) zs h = ap (λ (l : List ℤ). turn S c l i) (sweep_mirrored i zs (omega arith)) ∙ turn_mirrored (sweep R c i zs) i h
 
-  pass-mirrored : (zs : List ℤ) → pass S c (negated zs) ≡ negated (pass R c zs)
+  pass_mirrored : (zs : List ℤ) → pass S c (negated zs) ≡ negated (pass R c zs)
   unfolding pass
-  pass-mirrored zs = ap (λ (n : ℕ). sweep S c n (negated zs)) mirror.size ∙ sweep-mirrored R.size zs (omega arith)
+  pass_mirrored zs = ap (λ (n : ℕ). sweep S c n (negated zs)) mirror.size ∙ sweep_mirrored R.size zs (omega arith)
 
-pub passes-mirrored : PassesMirrored
+pub passes_mirrored : PassesMirrored
 unfolding passes
-passes-mirrored R S mirror c zero zs = refl
-passes-mirrored R S mirror c (suc m) zs = ap (pass S c) (passes-mirrored R S mirror c m zs) ∙ pass-mirrored R S mirror c (passes R c m zs)
+passes_mirrored R S mirror c zero zs = refl
+passes_mirrored R S mirror c (suc m) zs = ap (pass S c) (passes_mirrored R S mirror c m zs) ∙ pass_mirrored R S mirror c (passes R c m zs)

@@ -9,7 +9,7 @@ use Rattle.spline.specs.Spline.{Course, InBounds, bends}
 use Rattle.spline.specs.Position.{position}
 use Rattle.runner.specs.Steps.{adrift}
 use Rattle.runner.specs.declared.Runner.{Runner}
-use Rattle.place.specs.Places.{bendOf, placeAtTick, placeOfRunner}
+use Rattle.place.specs.Places.{bend_of, place_at_tick, place_of_runner}
 use Rattle.station.specs.Claim.{Own, Answers}
 use Rattle.mirror.specs.Images.{negated, MirrorRows, MirrorCourse, MirrorSheet}
 
@@ -32,13 +32,13 @@ pub record PlaceNegated (axis : ℕ) (a b : Told) : Type 0 where
 
 -- L7: on the axis all bend numbers in the list ys of t are those in the list zs of s, negated
 abbrev pub BendsNegated : (s t : List ℕ) → ℕ → (zs ys : List ℤ) → Type 0
-BendsNegated s t axis zs ys = (i : ℕ) → i < points s → bendOf t ys axis i ≡ neg_ℤ (bendOf s zs axis i)
+BendsNegated s t axis zs ys = (i : ℕ) → i < points s → bend_of t ys axis i ≡ neg_ℤ (bend_of s zs axis i)
 
 -- L7, P6: and so are the places on the axis, at each tick of the course and of each runner that is not adrift
 pub record AxisNegated (s t : List ℕ) (axis : ℕ) (zs ys : List ℤ) : Type 0 where
-  pub all-bends : BendsNegated s t axis zs ys
-  pub by-tick : (tick : ℕ) → Answers (kind s) (ticks s) tick → PlaceNegated axis (placeAtTick s zs tick) (placeAtTick t ys tick)
-  pub by-runner : (r : Runner) → adrift s r ≡ false → PlaceNegated axis (placeOfRunner s zs r) (placeOfRunner t ys r)
+  pub all_bends : BendsNegated s t axis zs ys
+  pub by_tick : (tick : ℕ) → Answers (kind s) (ticks s) tick → PlaceNegated axis (place_at_tick s zs tick) (place_at_tick t ys tick)
+  pub by_runner : (r : Runner) → adrift s r ≡ false → PlaceNegated axis (place_of_runner s zs r) (place_of_runner t ys r)
 
 -- so it is of any two accepted sheets that mirror each other on an axis, each with the station's own bend numbers (C1)
 abbrev pub SheetMirrored : Type 0

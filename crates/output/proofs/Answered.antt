@@ -11,15 +11,15 @@ use lib.ListN.{length, length-replicate}
 use Rattle.ends.specs.declared.EndKind.{EndKind}
 use Rattle.ends.specs.declared.EndKind.TheVariants.{Free, Held, Closed}
 use Rattle.sheet.specs.Fields.{kind, ticks}
-use Rattle.sheet.specs.Reading.{Accepted, longestSheet}
-use Rattle.sheet.proofs.Laws.{accepted-read, accepted-bounds}
-use Rattle.layout.specs.Layout.{laidOut}
-use Rattle.runner.specs.Ticks.{spotAt}
-use Rattle.place.specs.Places.{placed, placeAtTick}
+use Rattle.sheet.specs.Reading.{Accepted, longest_sheet}
+use Rattle.sheet.proofs.Laws.{accepted_read, accepted_bounds}
+use Rattle.layout.specs.Layout.{laid_out}
+use Rattle.runner.specs.Ticks.{spot_at}
+use Rattle.place.specs.Places.{placed, place_at_tick}
 use Rattle.station.specs.Claim.{Own, Answers}
 use Rattle.station.proofs.Claim.{claim}
-use Rattle.station.proofs.Own.{own-laid}
-use Rattle.output.specs.Output.{line_of, line_at, lentList, outputBy, output}
+use Rattle.station.proofs.Own.{own_laid}
+use Rattle.output.specs.Output.{line_of, line_at, lent_list, output_by, output}
 use Rattle.output.specs.Pieces.{AllAnswered}
 use Rattle.output.specs.Theorems.{EveryTick, AcceptedOutput}
 
@@ -28,22 +28,22 @@ module _ (s : List ℕ) (accepted : Accepted s) where
   answers : (k : EndKind) (t : ℕ) → t ≤ ticks s → Answers k (ticks s) t
   answers Free t h = h
   answers Held t h = h
-  answers Closed t h = omega (arith, (accepted-bounds s accepted).few-ticks)
+  answers Closed t h = omega (arith, (accepted_bounds s accepted).few_ticks)
 
-  answered : (list : List ℤ) → Own s list → (t : ℕ) → t ≤ ticks s → placeAtTick s list t ≡ placed s list (spotAt s t)
-  answered list own t h = ((claim s accepted).by-tick list own t (answers (kind s) t h)).place
+  answered : (list : List ℤ) → Own s list → (t : ℕ) → t ≤ ticks s → place_at_tick s list t ≡ placed s list (spot_at s t)
+  answered list own t h = ((claim s accepted).by_tick list own t (answers (kind s) t h)).place
 
-  pub all-answered : (list : List ℤ) → Own s list → AllAnswered s list (suc (ticks s))
-  all-answered list own t h = ap (λ told. told.number) (answered list own t (omega arith))
+  pub all_answered : (list : List ℤ) → Own s list → AllAnswered s list (suc (ticks s))
+  all_answered list own t h = ap (λ told. told.number) (answered list own t (omega arith))
 
-  pub lent-own : Own s (laidOut s lentList)
-  lent-own = own-laid s accepted lentList (omega (arith, length-replicate 1536 (pos 0), (accepted-bounds s accepted).few))
+  pub lent_own : Own s (laid_out s lent_list)
+  lent_own = own_laid s accepted lent_list (omega (arith, length-replicate 1536 (pos 0), (accepted_bounds s accepted).few))
 
-pub every-tick : EveryTick
+pub every_tick : EveryTick
 unfolding line_at
-every-tick s accepted list own t h = ap (λ told. cond (eqb told.number 0) (line_of t told.values) []) (answered s accepted list own t h)
+every_tick s accepted list own t h = ap (λ told. cond (eqb told.number 0) (line_of t told.values) []) (answered s accepted list own t h)
 
-pub accepted-output : AcceptedOutput
+pub accepted_output : AcceptedOutput
 unfolding output
-accepted-output s accepted =
-    (rw (le-ltb longestSheet (length s) (accepted-bounds s accepted).longest) (ap (λ r. outputBy r s) (accepted-read s accepted)), lent-own s accepted)
+accepted_output s accepted =
+    (rw (le-ltb longest_sheet (length s) (accepted_bounds s accepted).longest) (ap (λ r. output_by r s) (accepted_read s accepted)), lent_own s accepted)

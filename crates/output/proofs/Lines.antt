@@ -13,10 +13,10 @@ use Rattle.integers.proofs.Machine.{back}
 use Rattle.systems.specs.Passes.{at}
 use Rattle.answers.specs.declared.Outcome.{Outcome}
 use Rattle.sheet.specs.declared.Refusal.{Refusal}
-use Rattle.sheet.proofs.Told.{number-positive}
+use Rattle.sheet.proofs.Told.{number_positive}
 use Rattle.answers.specs.declared.Outcome.TheVariants.{Done, Refused}
 use Rattle.lines.specs.Lines.{line}
-use Rattle.place.specs.Places.{toldBy, placeAtTick}
+use Rattle.place.specs.Places.{told_by, place_at_tick}
 use Rattle.output.specs.Output.{line_of, line_at, lines_from}
 
 module _ (s : List ℕ) (list : List ℤ) where
@@ -30,9 +30,9 @@ module _ (s : List ℕ) (list : List ℤ) where
       ap (λ k. lines_from s list tick k) (let e : end - tick ≡ suc (end - (tick + 1)) = omega arith in e)
       ∙ ap (λ t. line_at s list tick ++ lines_from s list t (end - (tick + 1))) (sym (add-one tick))
 
-  pub line-moved : (tick end : ℕ) (before text : List ℕ) {whole remains : List ℕ} → tick < end → before ++ lines_from s list tick (end - tick) ≡ remains
+  pub line_moved : (tick end : ℕ) (before text : List ℕ) {whole remains : List ℕ} → tick < end → before ++ lines_from s list tick (end - tick) ≡ remains
       → whole ≡ before ++ text → text ≡ line_at s list tick → whole ++ lines_from s list (tick + 1) (end - (tick + 1)) ≡ remains
-  line-moved tick end before text h e w q =
+  line_moved tick end before text h e w q =
       let later = lines_from s list (tick + 1) (end - (tick + 1)) in
       ap (λ l. l ++ later) w
       ∙ append_assoc before text later
@@ -45,12 +45,12 @@ module _ (tick : ℕ) (place : List ℤ) (north : SFits w64 (at place 0)) (east 
   from_bits : line tick (to_z w64 (of_z w64 (at place 0))) (to_z w64 (of_z w64 (at place 1))) (to_z w64 (of_z w64 (at place 2))) ≡ line_of tick place
   from_bits i = line tick (back refl north i) (back refl east i) (back refl up i)
 
-  pub line-answered : (s : List ℕ) (list : List ℤ) {outcome : Outcome} → outcome ≡ Done → toldBy outcome place ≡ placeAtTick s list tick
+  pub line_answered : (s : List ℕ) (list : List ℤ) {outcome : Outcome} → outcome ≡ Done → told_by outcome place ≡ place_at_tick s list tick
       → line tick (to_z w64 (of_z w64 (at place 0))) (to_z w64 (of_z w64 (at place 1))) (to_z w64 (of_z w64 (at place 2))) ≡ line_at s list tick
   unfolding line_at
-  line-answered s list done told = from_bits ∙ ap (λ t. cond (eqb t.number 0) (line_of tick t.values) []) (rw done at told)
+  line_answered s list done told = from_bits ∙ ap (λ t. cond (eqb t.number 0) (line_of tick t.values) []) (rw done at told)
 
 -- a tick that gets its place is not refused
-pub not-refused : (s : List ℕ) (list : List ℤ) (tick : ℕ) (place : List ℤ) (r : Refusal) {outcome : Outcome} → outcome ≡ Refused r
-    → toldBy outcome place ≡ placeAtTick s list tick → (placeAtTick s list tick).number ≡ 0 → ⊥
-not-refused s list tick place r e told none = omega (arith, ap (λ t. t.number) (rw e at told), number-positive r)
+pub not_refused : (s : List ℕ) (list : List ℤ) (tick : ℕ) (place : List ℤ) (r : Refusal) {outcome : Outcome} → outcome ≡ Refused r
+    → told_by outcome place ≡ place_at_tick s list tick → (place_at_tick s list tick).number ≡ 0 → ⊥
+not_refused s list tick place r e told none = omega (arith, ap (λ t. t.number) (rw e at told), number_positive r)

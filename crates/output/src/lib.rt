@@ -1,7 +1,7 @@
 // The stand's output in pieces, each put into a lent buffer: the header or a refusal's line, then the lines of successive ticks (T1 to T4). For the stand.
 ghost use Rattle.std.specs.Prelude.{◌≡◌, ◌⊎◌, ◌+◌, ◌-◌, ◌≤◌, ◌<◌, length, take};
-ghost use Rattle.output.specs.Output.{lines_from, lentList, output};
-ghost use Rattle.words.specs.Words.{refusalLine};
+ghost use Rattle.output.specs.Output.{lines_from, lent_list, output};
+ghost use Rattle.words.specs.Words.{refusal_line};
 ghost use Rattle.output.specs.Pieces.{AllAnswered, PieceOf};
 
 use answers::Outcome;
@@ -18,7 +18,7 @@ pub struct Piece {
 // A refusal's line is all there is.
 fn refused(out: &mut [u8], refusal: Refusal) -> Piece
     requires { 19 ≤ length out.old }
-    ensures { (result.next ≡ 0) × (result.end ≡ 0) × (result.bytes ≤ length out.new) × (take result.bytes out.new ≡ refusalLine refusal) }
+    ensures { (result.next ≡ 0) × (result.end ≡ 0) × (result.bytes ≤ length out.new) × (take result.bytes out.new ≡ refusal_line refusal) }
 {
     Piece {
         bytes: words::put_refusal(out, refusal),
@@ -29,7 +29,7 @@ fn refused(out: &mut [u8], refusal: Refusal) -> Piece
 
 // The first piece. For an accepted sheet its bend numbers are laid out in the list, which has room for those of any.
 pub fn begin(input: &[u8], list: &mut [i64], out: &mut [u8]) -> Piece
-    requires { (list.old ≡ lentList) × (19 ≤ length out.old) }
+    requires { (list.old ≡ lent_list) × (19 ≤ length out.old) }
     ensures piece_of { PieceOf input.now list.new out.new result.bytes result.next result.end (output input.now) }
     ensures some { 1 ≤ result.bytes }
     ensures answered { AllAnswered input.now list.new result.end }

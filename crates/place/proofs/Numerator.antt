@@ -6,15 +6,15 @@ use Prim.Native.Nat.{ℕ, ◌+◌, ◌-◌, ◌*◌, ◌^◌, ◌≤◌}
 use native.Mathlib.Omega.{arith}
 use lib.IntN.{ℤ, pos, nat_abs, ◌+ℤ◌, ◌-ℤ◌, ◌*ℤ◌}
 use Rattle.integers.proofs.Ring.{◌⊕◌, ◌⊖◌, #◌}
-use Rattle.integers.proofs.Order.{abs-add, abs-mul-le}
+use Rattle.integers.proofs.Order.{abs_add, abs_mul_le}
 use Rattle.integers.proofs.Linear.{lin, ◌≐◌, ◌⊢◌≗◌with◌}
 use Rattle.spline.specs.Position.{numerator}
 use Rattle.integers.proofs.Made.{read, Made, given, times, plus}
 use Rattle.place.specs.Asked.{OnLeg}
 
 -- a difference of naturals that is none below 0
-pos-sub : (a b : ℕ) → b ≤ a → pos (a - b) ≡ pos a -ℤ pos b
-pos-sub a b h =
+pos_sub : (a b : ℕ) → b ≤ a → pos (a - b) ≡ pos a -ℤ pos b
+pos_sub a b h =
     let e : a - b + b ≡ a = omega arith in
     lin 3 (λ a b d. d ⊕ b ≐ a ∷ [] ⊢ d ≗ a ⊖ b with # 1 ∷ []) tt (pos a) (pos b) (pos (a - b)) (ap pos e)
 
@@ -51,33 +51,33 @@ module _ {h u : ℕ} {v w z y : ℤ} (o : OnLeg h u v w z y) where
   pub end : Made w w 1_000_000
   end = given refl o.end tt
 
-  pub start-bend : Made z z (2 ^ 37)
-  start-bend = given refl o.start-bend tt
+  pub start_bend : Made z z (2 ^ 37)
+  start_bend = given refl o.start_bend tt
 
-  pub end-bend : Made y y (2 ^ 37)
-  end-bend = given refl o.end-bend tt
+  pub end_bend : Made y y (2 ^ 37)
+  end_bend = given refl o.end_bend tt
 
   -- u×w + (h - u)×v
   pub ends : Made (add (mul (pos u) w) (mul (pos (h - u)) v)) (pos u *ℤ w +ℤ pos (h - u) *ℤ v) 512_000_000
   ends = plus (times past end tt) (times left start tt) tt
 
   -- (h + u)×Y + (2h - u)×Z
-  bends-size : nat_abs (pos (h + u) *ℤ y +ℤ pos (2 * h - u) *ℤ z) ≤ 768 * 2 ^ 37
-  bends-size =
-      let e : nat_abs (pos (h + u) *ℤ y) ≤ (h + u) * 2 ^ 37 = abs-mul-le (pos (h + u)) y (omega arith) o.end-bend in
-      let s : nat_abs (pos (2 * h - u) *ℤ z) ≤ (2 * h - u) * 2 ^ 37 = abs-mul-le (pos (2 * h - u)) z (omega arith) o.start-bend in
-      omega (arith, abs-add (pos (h + u) *ℤ y) (pos (2 * h - u) *ℤ z))
+  bends_size : nat_abs (pos (h + u) *ℤ y +ℤ pos (2 * h - u) *ℤ z) ≤ 768 * 2 ^ 37
+  bends_size =
+      let e : nat_abs (pos (h + u) *ℤ y) ≤ (h + u) * 2 ^ 37 = abs_mul_le (pos (h + u)) y (omega arith) o.end_bend in
+      let s : nat_abs (pos (2 * h - u) *ℤ z) ≤ (2 * h - u) * 2 ^ 37 = abs_mul_le (pos (2 * h - u)) z (omega arith) o.start_bend in
+      omega (arith, abs_add (pos (h + u) *ℤ y) (pos (2 * h - u) *ℤ z))
 
   pub bends : Made (add (mul (pos (h + u)) y) (mul (pos (2 * h - u)) z)) (pos (h + u) *ℤ y +ℤ pos (2 * h - u) *ℤ z) (768 * 2 ^ 37)
-  bends = given (plus (times sum end-bend tt) (times rest start-bend tt) tt).same bends-size tt
+  bends = given (plus (times sum end_bend tt) (times rest start_bend tt) tt).same bends_size tt
 
   -- u×(h - u) times that
   pub bend : Made (mul (mul (pos u) (pos (h - u))) (add (mul (pos (h + u)) y) (mul (pos (2 * h - u)) z)))
       (pos u *ℤ pos (h - u) *ℤ (pos (h + u) *ℤ y +ℤ pos (2 * h - u) *ℤ z)) (65536 * (768 * 2 ^ 37))
   bend = times (times past left tt) bends tt
 
-  pub numerator-is : pos 65536 *ℤ (pos u *ℤ w +ℤ pos (h - u) *ℤ v) -ℤ pos u *ℤ pos (h - u) *ℤ (pos (h + u) *ℤ y +ℤ pos (2 * h - u) *ℤ z) ≡ numerator h u v w z y
+  pub numerator_is : pos 65536 *ℤ (pos u *ℤ w +ℤ pos (h - u) *ℤ v) -ℤ pos u *ℤ pos (h - u) *ℤ (pos (h + u) *ℤ y +ℤ pos (2 * h - u) *ℤ z) ≡ numerator h u v w z y
   unfolding numerator
-  numerator-is =
-      let p = pos-sub h u o.offset in let q = pos-sub (2 * h) u (omega arith) in
+  numerator_is =
+      let p = pos_sub h u o.offset in let q = pos_sub (2 * h) u (omega arith) in
       λ i. pos 65536 *ℤ (pos u *ℤ w +ℤ p i *ℤ v) -ℤ pos u *ℤ p i *ℤ (pos (h + u) *ℤ y +ℤ q i *ℤ z)

@@ -2,7 +2,7 @@
 ghost use Rattle.std.specs.Prelude.{◌≡◌, false, ◌<◌};
 ghost use Rattle.sheet.specs.Fields.{leg, waypoint};
 ghost use Rattle.place.specs.Asked.{Fitting};
-ghost use Rattle.place.specs.Places.{bendOutside, bendOf, end_of, placeOn};
+ghost use Rattle.place.specs.Places.{bend_outside, bend_of, end_of, place_on};
 
 use crate::bends::bend_of;
 use crate::position::position;
@@ -30,7 +30,7 @@ pub fn numbers_on(
 ) -> LegNumbers
     requires fitting { Fitting s.now list.now points legs at }
     requires end_value { (end ≡ end_of s.now at.leg) × (end < points) × (axis < 3) }
-    ensures { (result.v ≡ waypoint s.now axis at.leg) × (result.w ≡ waypoint s.now axis (end_of s.now at.leg)) × (result.z ≡ bendOf s.now list.now axis at.leg) × (result.y ≡ bendOf s.now list.now axis (end_of s.now at.leg)) }
+    ensures { (result.v ≡ waypoint s.now axis at.leg) × (result.w ≡ waypoint s.now axis (end_of s.now at.leg)) × (result.z ≡ bend_of s.now list.now axis at.leg) × (result.y ≡ bend_of s.now list.now axis (end_of s.now at.leg)) }
 {
     let start = at.leg as usize;
     let v = waypoint_on(s, legs, axis, start);
@@ -52,10 +52,10 @@ pub fn place_on(
     axis: usize,
 ) -> i64
     requires fitting { Fitting s.now list.now points legs at }
-    requires leg_value { bendOutside s.now list.now at.leg ≡ false }
+    requires leg_value { bend_outside s.now list.now at.leg ≡ false }
     requires end_value { (end ≡ end_of s.now at.leg) × (end < points) × (h ≡ leg s.now at.leg) }
     requires axis_bound { axis < 3 }
-    ensures { result ≡ placeOn s.now list.now at axis }
+    ensures { result ≡ place_on s.now list.now at axis }
 {
     let n = numbers_on(s, list, points, legs, at, end, axis);
     let v = n.v;

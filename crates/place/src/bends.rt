@@ -1,6 +1,6 @@
 // The bend numbers in the lent list, axis after axis (L5), and what is tested of them: 9 and 12.
 ghost use Rattle.std.specs.Prelude.{◌≡◌, ◌||◌, ◌+◌, ◌*◌, ◌≤◌, ◌<◌, ltb, length};
-ghost use Rattle.sheet.specs.Bytes.{anyBelow};
+ghost use Rattle.sheet.specs.Bytes.{any_below};
 ghost use Rattle.systems.specs.Passes.{at};
 ghost use Rattle.place.specs.Places.{beyond};
 
@@ -38,7 +38,7 @@ fn outside_on(list: &[i64], points: usize, axis: usize, start: usize, end: usize
 // N12, on all axes.
 pub fn bend_outside(list: &[i64], points: usize, start: usize, end: usize) -> bool
     requires { (3 * points ≤ length list.now) × (start < points) × (end < points) }
-    ensures { result ≡ anyBelow (λ axis. beyond (at list.now (axis * points + start)) || beyond (at list.now (axis * points + end))) 3 }
+    ensures { result ≡ any_below (λ axis. beyond (at list.now (axis * points + start)) || beyond (at list.now (axis * points + end))) 3 }
 {
     outside_on(list, points, 0, start, end)
         | outside_on(list, points, 1, start, end)

@@ -6,7 +6,7 @@ pub mod position;
 ghost use Rattle.std.specs.Prelude.{◌≡◌};
 ghost use Rattle.sheet.specs.Answers.{refused};
 ghost use Rattle.place.specs.Asked.{Fitting};
-ghost use Rattle.place.specs.Places.{toldPlaced, placeHeld, bendOrPlace, placeAtTick, placeAtTickBy, placeOfRunner, placeOfRunnerBy};
+ghost use Rattle.place.specs.Places.{told_placed, place_held, bend_or_place, place_at_tick, place_at_tick_by, place_of_runner, place_of_runner_by};
 
 use answers::Outcome;
 use axis::place_on;
@@ -30,8 +30,8 @@ pub struct Placed {
 
 // A9: the number alone.
 pub fn refused(refusal: Refusal) -> Placed
-    ensures told { toldPlaced result ≡ refused refusal }
-    ensures place { result.place.at ≡ placeHeld (refused refusal) }
+    ensures told { told_placed result ≡ refused refusal }
+    ensures place { result.place.at ≡ place_held (refused refusal) }
 {
     let nowhere = Place { at: [0, 0, 0] };
     Placed {
@@ -43,8 +43,8 @@ pub fn refused(refusal: Refusal) -> Placed
 // The place of a runner to which 11 does not apply; 12 is left to test.
 pub fn place_at(s: &[u8], list: &[i64], points: usize, legs: usize, at: Runner) -> Placed
     requires { Fitting s.now list.now points legs at }
-    ensures told { toldPlaced result ≡ bendOrPlace s.now list.now at }
-    ensures place { result.place.at ≡ placeHeld (bendOrPlace s.now list.now at) }
+    ensures told { told_placed result ≡ bend_or_place s.now list.now at }
+    ensures place { result.place.at ≡ place_held (bend_or_place s.now list.now at) }
 {
     let start = at.leg as usize;
     let end = sheet::end_of(points, start);
@@ -66,8 +66,8 @@ pub fn place_at(s: &[u8], list: &[i64], points: usize, legs: usize, at: Runner) 
 
 // A4, on sheets with up to `limit` waypoints: tests 1 to 10 and 12.
 pub fn place_at_tick_by(limit: usize, s: &[u8], list: &[i64], tick: u64) -> Placed
-    ensures told { toldPlaced result ≡ placeAtTickBy limit s.now list.now tick }
-    ensures place { result.place.at ≡ placeHeld (placeAtTickBy limit s.now list.now tick) }
+    ensures told { told_placed result ≡ place_at_tick_by limit s.now list.now tick }
+    ensures place { result.place.at ≡ place_held (place_at_tick_by limit s.now list.now tick) }
 {
     let mut sums = [0u32; SUMS];
     let reading = sheet::read_with_sums(limit, s, &mut sums);
@@ -92,8 +92,8 @@ pub fn place_at_tick_by(limit: usize, s: &[u8], list: &[i64], tick: u64) -> Plac
 
 // A5, on sheets with up to `limit` waypoints: tests 1 to 9, 11 and 12.
 pub fn place_of_runner_by(limit: usize, s: &[u8], list: &[i64], at: Runner) -> Placed
-    ensures told { toldPlaced result ≡ placeOfRunnerBy limit s.now list.now at }
-    ensures place { result.place.at ≡ placeHeld (placeOfRunnerBy limit s.now list.now at) }
+    ensures told { told_placed result ≡ place_of_runner_by limit s.now list.now at }
+    ensures place { result.place.at ≡ place_held (place_of_runner_by limit s.now list.now at) }
 {
     let reading = sheet::read_by(limit, s);
     let Reading::Course {
@@ -116,15 +116,15 @@ pub fn place_of_runner_by(limit: usize, s: &[u8], list: &[i64], at: Runner) -> P
 
 // The station's.
 pub fn place_at_tick(s: &[u8], list: &[i64], tick: u64) -> Placed
-    ensures told { toldPlaced result ≡ placeAtTick s.now list.now tick }
-    ensures place { result.place.at ≡ placeHeld (placeAtTick s.now list.now tick) }
+    ensures told { told_placed result ≡ place_at_tick s.now list.now tick }
+    ensures place { result.place.at ≡ place_held (place_at_tick s.now list.now tick) }
 {
     place_at_tick_by(MOST_POINTS, s, list, tick)
 }
 
 pub fn place_of_runner(s: &[u8], list: &[i64], at: Runner) -> Placed
-    ensures told { toldPlaced result ≡ placeOfRunner s.now list.now at }
-    ensures place { result.place.at ≡ placeHeld (placeOfRunner s.now list.now at) }
+    ensures told { told_placed result ≡ place_of_runner s.now list.now at }
+    ensures place { result.place.at ≡ place_held (place_of_runner s.now list.now at) }
 {
     place_of_runner_by(MOST_POINTS, s, list, at)
 }

@@ -14,7 +14,7 @@ use denote.Triple.Clauses.{Ended, Clauses, closing}
 use denote.Triple.Spec.{triple_of}
 use denote.Triple.Statement.{Contract}
 use Rattle.sheet.specs.Answers.{Told}
-use Rattle.answers.specs.Answers.{toldOutcome, bare}
+use Rattle.answers.specs.Answers.{told_outcome, bare}
 use Rattle.answers.specs.declared.Outcome.{Outcome}
 use Rattle.answers.specs.contracts.Outcome as O
 use Rattle.runner.specs.declared.Runner.{Runner}
@@ -45,18 +45,18 @@ by_value = record {
 
 module _ (answer : List ℕ → Runner → Told) (leaves : List ℕ → Runner → Runner) where
   abbrev pub Promise : List ℕ → Runner → Outcome → Runner → Type 0
-  Promise s h x h' = (toldOutcome x ≡ bare (answer s h)) × (h' ≡ leaves s h)
+  Promise s h x h' = (told_outcome x ≡ bare (answer s h)) × (h' ≡ leaves s h)
 
   module _ {M : Type 1} (𝓤 : Ura M) where
-    abbrev pub lent-clauses : Clauses 𝓤 lent
-    lent-clauses κs a = record { ghost = Unit {0}; requires = λ _. emp 𝓤; ensures = λ _ x end. fact 𝓤 (Promise a.0.now a.1.0.now x end.1.0.now) }
+    abbrev pub lent_clauses : Clauses 𝓤 lent
+    lent_clauses κs a = record { ghost = Unit {0}; requires = λ _. emp 𝓤; ensures = λ _ x end. fact 𝓤 (Promise a.0.now a.1.0.now x end.1.0.now) }
 
-    abbrev pub value-clauses : Clauses 𝓤 by_value
-    value-clauses κs a = record { ghost = Unit {0}; requires = λ _. emp 𝓤; ensures = λ _ r end. fact 𝓤 (Promise a.0.now a.1.0 r.outcome r.at) }
+    abbrev pub value_clauses : Clauses 𝓤 by_value
+    value_clauses κs a = record { ghost = Unit {0}; requires = λ _. emp 𝓤; ensures = λ _ r end. fact 𝓤 (Promise a.0.now a.1.0 r.outcome r.at) }
 
     module _ (𝓛 : Logic 𝓤) where
       abbrev pub Lent : Contract 𝓤
-      Lent = triple_of 𝓛 lent.signature (closing 𝓛 lent lent-clauses)
+      Lent = triple_of 𝓛 lent.signature (closing 𝓛 lent lent_clauses)
 
       abbrev pub ByValue : Contract 𝓤
-      ByValue = triple_of 𝓛 by_value.signature (closing 𝓛 by_value value-clauses)
+      ByValue = triple_of 𝓛 by_value.signature (closing 𝓛 by_value value_clauses)

@@ -7,8 +7,8 @@ use Prim.Native.Nat.{ℕ, ◌≤◌}
 use lib.Dec.{eqb}
 use lib.IntN.{pos, nat_abs}
 use lib.ListN.{get_or}
-use Rattle.answers.specs.Answers.{passOn, guard}
-use Rattle.answers.proofs.Guards.{never-zero, done-changes, refused-keeps}
+use Rattle.answers.specs.Answers.{pass_on, guard}
+use Rattle.answers.proofs.Guards.{never_zero, done_changes, refused_keeps}
 use Rattle.sheet.specs.Answers.{Told}
 use Rattle.sheet.specs.Fields.{points}
 use Rattle.sheet.specs.Reading.{Accepted, read_by}
@@ -16,8 +16,8 @@ use Rattle.sheet.specs.declared.Reading.{Reading}
 use Rattle.sheet.specs.declared.Reading.TheVariants as R
 use Rattle.sheet.specs.declared.Refusal.{Refusal}
 use Rattle.sheet.specs.declared.Refusal.TheVariants.{Adrift}
-use Rattle.sheet.proofs.Laws.{within-read, read-accepted}
-use Rattle.runner.specs.Ticks.{runner, atLap, found, toldRunner, left}
+use Rattle.sheet.proofs.Laws.{within_read, read_accepted}
+use Rattle.runner.specs.Ticks.{runner, at_lap, found, told_runner, left}
 use Rattle.runner.specs.Steps.{adrift}
 use Rattle.runner.specs.declared.Runner.{Runner}
 use Rattle.runner.specs.declared.RunnerAnswer.{RunnerAnswer}
@@ -25,7 +25,7 @@ use Rattle.runner.specs.declared.RunnerAnswer.TheVariants.{At, Refused}
 
 -- the definition of step and back: b is the test of the call's own, of number q, and m the runner moved
 abbrev pub Chain : ℕ → List ℕ → Runner → Bool → Refusal → Runner → Told
-Chain limit s r b q m = passOn (read_by limit s) (guard (adrift s r) Adrift (guard b q (found m)))
+Chain limit s r b q m = pass_on (read_by limit s) (guard (adrift s r) Adrift (guard b q (found m)))
 
 pub record Passed (limit : ℕ) (s : List ℕ) (r : Runner) (b : Bool) : Type 0 where
   pub accepted : Accepted s
@@ -33,34 +33,34 @@ pub record Passed (limit : ℕ) (s : List ℕ) (r : Runner) (b : Bool) : Type 0 
   pub fits : adrift s r ≡ false
   pub free : b ≡ false
 
-passed-by : (limit : ℕ) (s : List ℕ) (r : Runner) (b : Bool) (q : Refusal) (m : Runner) (answer : Reading) (a c : Bool) → read_by limit s ≡ answer → adrift s r ≡ a → b ≡ c
-    → (passOn answer (guard a Adrift (guard c q (found m)))).number ≡ 0 → Passed limit s r b
-passed-by limit s r b q m (R.Refused w) a c read off own e = never-zero w e
-passed-by limit s r b q m (R.Course k n p) true c read off own e = never-zero Adrift e
-passed-by limit s r b q m (R.Course k n p) false true read off own e = never-zero q e
-passed-by limit s r b q m (R.Course k n p) false false read off own e =
-    let a = read-accepted limit s k n p read in
+passed_by : (limit : ℕ) (s : List ℕ) (r : Runner) (b : Bool) (q : Refusal) (m : Runner) (answer : Reading) (a c : Bool) → read_by limit s ≡ answer → adrift s r ≡ a → b ≡ c
+    → (pass_on answer (guard a Adrift (guard c q (found m)))).number ≡ 0 → Passed limit s r b
+passed_by limit s r b q m (R.Refused w) a c read off own e = never_zero w e
+passed_by limit s r b q m (R.Course k n p) true c read off own e = never_zero Adrift e
+passed_by limit s r b q m (R.Course k n p) false true read off own e = never_zero q e
+passed_by limit s r b q m (R.Course k n p) false false read off own e =
+    let a = read_accepted limit s k n p read in
     record { accepted = a.0; within = a.4; fits = off; free = own }
 
 module _ (limit : ℕ) (s : List ℕ) (r : Runner) (b : Bool) (q : Refusal) (m : Runner) where
-  pub has-passed : (Chain limit s r b q m).number ≡ 0 → Passed limit s r b
-  has-passed = passed-by limit s r b q m (read_by limit s) (adrift s r) b refl refl refl
+  pub has_passed : (Chain limit s r b q m).number ≡ 0 → Passed limit s r b
+  has_passed = passed_by limit s r b q m (read_by limit s) (adrift s r) b refl refl refl
 
-  pub answers-moved : Passed limit s r b → Chain limit s r b q m ≡ found m
-  answers-moved p = simp (within-read limit s p.accepted p.within, p.fits, p.free)
+  pub answers_moved : Passed limit s r b → Chain limit s r b q m ≡ found m
+  answers_moved p = simp (within_read limit s p.accepted p.within, p.fits, p.free)
 
 -- two runners that are told alike are the same
-found-injective : (a b : Runner) → found a ≡ found b → a ≡ b
-found-injective a b e =
+found_injective : (a b : Runner) → found a ≡ found b → a ≡ b
+found_injective a b e =
     let x : a.leg ≡ b.leg = ap (λ (t : Told). nat_abs (get_or t.values 0 (pos 0))) e in
     let y : a.offset ≡ b.offset = ap (λ (t : Told). nat_abs (get_or t.values 1 (pos 0))) e in
     let z : a.laps ≡ b.laps = ap (λ (t : Told). nat_abs (get_or t.values 2 (pos 0))) e in
-    λ i. atLap (z i) (runner (x i) (y i))
+    λ i. at_lap (z i) (runner (x i) (y i))
 
 -- an answer by value that is told as the chain leaves the record that the chain's number names
-pub kept-left : (limit : ℕ) (s : List ℕ) (r : Runner) (b : Bool) (q : Refusal) (m : Runner) (answer : RunnerAnswer) → toldRunner answer ≡ Chain limit s r b q m
+pub kept_left : (limit : ℕ) (s : List ℕ) (r : Runner) (b : Bool) (q : Refusal) (m : Runner) (answer : RunnerAnswer) → told_runner answer ≡ Chain limit s r b q m
     → left answer r ≡ cond (eqb (Chain limit s r b q m).number 0) m r
-kept-left limit s r b q m (At next) e =
+kept_left limit s r b q m (At next) e =
     let zero_number : (Chain limit s r b q m).number ≡ 0 = ap (λ (t : Told). t.number) (sym e) in
-    found-injective next m (e ∙ answers-moved limit s r b q m (has-passed limit s r b q m zero_number)) ∙ sym (done-changes (Chain limit s r b q m) m r zero_number)
-kept-left limit s r b q m (Refused w) e = sym (refused-keeps (Chain limit s r b q m) m r w e)
+    found_injective next m (e ∙ answers_moved limit s r b q m (has_passed limit s r b q m zero_number)) ∙ sym (done_changes (Chain limit s r b q m) m r zero_number)
+kept_left limit s r b q m (Refused w) e = sym (refused_keeps (Chain limit s r b q m) m r w e)

@@ -42,8 +42,8 @@ use denote.Exit.{yes}
 use Rattle.sheet.specs.Answers.{Told}
 use Rattle.runner.specs.declared.Runner.{Runner}
 use Rattle.runner.specs.declared.records.RunnerOutcome.{RunnerOutcome}
-use Rattle.runner.proofs.ByHand.{by-walk}
-use Rattle.runner.proofs.Forms.{lent, by_value, Promise, lent-clauses, value-clauses, Lent, ByValue}
+use Rattle.runner.proofs.ByHand.{by_walk}
+use Rattle.runner.proofs.Forms.{lent, by_value, Promise, lent_clauses, value_clauses, Lent, ByValue}
 use Rattle.runner.specs.contracts.Runner as T
 use Rattle.runner.proofs.Runner.TheLaws as T'
 use Rattle.runner.specs.contracts.records.RunnerOutcome as S
@@ -52,8 +52,8 @@ use Rattle.answers.specs.contracts.Outcome as O
 use Rattle.answers.proofs.Outcome.TheLaws as O'
 
 -- its body, by the callee's name. Locals: the outcome, the slice, the reference, what the callee gives, the copy
-abbrev lent-body : Name → Fn
-lent-body callee = record {
+abbrev lent_body : Name → Fn
+lent_body callee = record {
   lifetimes = 2;
   outlives = [];
   params = 2;
@@ -94,7 +94,7 @@ module _ (answer : List ℕ → Runner → Told) (leaves : List ℕ → Runner �
     Own = (ShrSlice (named 0) κ u8).own_val s (v ∷ [])
 
     abbrev Post : Val → SProp 𝓤
-    Post = (walk_of 𝓛 lent stayed (lent-clauses answer leaves 𝓤)).post (((κ, (κ', tt)), (q, (q', tt)), bounds, a, vals), tt)
+    Post = (walk_of 𝓛 lent stayed (lent_clauses answer leaves 𝓤)).post (((κ, (κ', tt)), (q, (q', tt)), bounds, a, vals), tt)
 
     abbrev to : (ByValue answer leaves 𝓤 𝓛).Ghost
     to = (((κ, tt), (q, tt), tt, (s, (h, tt)), (v ∷ [], (LL.vals T.the_type T'.the_laws h, tt))), tt)
@@ -105,22 +105,22 @@ module _ (answer : List ℕ → Runner → Told) (leaves : List ℕ → Runner �
         nothing ! $ owned ! T.the_row (Is T.the_row) ((LL.makes T.the_type T'.the_plain) 𝓛) h _ was $ fjoin ! $
         move ! (1 ∷ 0 ∷ []) $ fjoin ! $ move ! (1 ∷ 0 ∷ []) $ join ! $ frame ! $ done !
 
-    said : (r : RunnerOutcome) → ent 𝓤 (ensured 𝓛 by_value (value-clauses answer leaves 𝓤) (κ, tt) (s, (h, tt)) tt r) (fact 𝓤 (Kept r))
+    said : (r : RunnerOutcome) → ent 𝓤 (ensured 𝓛 by_value (value_clauses answer leaves 𝓤) (κ, tt) (s, (h, tt)) tt r) (fact 𝓤 (Kept r))
     said r = ex_e 𝓤 _ (λ ws. snd∗ 𝓤 (sem 𝓛 (lasts by_value (κ, tt) (s, (h, tt)) ws)) (fact 𝓤 (Kept r)))
 
     exits : (r : RunnerOutcome) (z : Val) → Kept r → Is O.the_row r.outcome (z ∷ [])
         → ent 𝓤 (⋆ 𝓛 (‵ (fobs γ ((T.the_row).coded.code r.at)) ∷ ‵ (fbor κ' (Body (mem T.the_row) b o γ)) ∷ ‵ (flft κ' q') ∷ (‵ (flft κ q) ⊛ ‵ ftrue) ∷ ‵ Own ∷ [])) (Post z)
     exits r z e is =
         qed 𝓛 (‵ (fobs γ ((T.the_row).coded.code r.at)) ∷ ‵ (fbor κ' (Body (mem T.the_row) b o γ)) ∷ ‵ (flft κ' q') ∷ (‵ (flft κ q) ⊛ ‵ ftrue) ∷ ‵ Own ∷ []) ∵
-        suffices ! _ (ends_at 𝓛 lent stayed (lent-clauses answer leaves 𝓤) (((κ, (κ', tt)), (q, (q', tt)), bounds, a, vals), tt) z r.outcome (tt, (r.at, tt)) (tt, (tt, tt))) $ says ! e $
+        suffices ! _ (ends_at 𝓛 lent stayed (lent_clauses answer leaves 𝓤) (((κ, (κ', tt)), (q, (q', tt)), bounds, a, vals), tt) z r.outcome (tt, (r.at, tt)) (tt, (tt, tt))) $ says ! e $
         nothing ! $ move ! (3 ∷ 0 ∷ []) $ join ! $ move ! (3 ∷ []) $ split ! $ move ! (1 ∷ []) $ drop ! $ join ! $ frame ! $
         feq_i ! (List Val) (vptr b o ∷ []) (vptr b o ∷ []) refl $ fjoin3 ! $ nothing ! $ move ! (1 ∷ 0 ∷ []) $ fjoin ! $ move ! (1 ∷ 0 ∷ []) $ fjoin ! $
         owned ! O.the_row (Is O.the_row) ((EL.makes O.the_type O'.the_plain) 𝓛) r.outcome _ is $ move ! (1 ∷ 0 ∷ []) $ done !
 
     module _ (callee : Name) (C : Calls 𝓤 H) (Λ : Loops 𝓤 H) (fm : FmC 𝓤 H 𝓛.laws C) (known : Triple 𝓤 (C callee) (ByValue answer leaves 𝓤 𝓛)) where
-      walk : Is (ShrSlice (named 0) κ u8) s (v ∷ []) → ent 𝓤 (on_entry 𝓛 lent.signature (κ, (κ', tt)) (q, (q', tt)) a vals) (WpFn 𝓤 H C Λ (lent-body callee) (v ∷ vptr b o ∷ []) Post)
+      walk : Is (ShrSlice (named 0) κ u8) s (v ∷ []) → ent 𝓤 (on_entry 𝓛 lent.signature (κ, (κ', tt)) (q, (q', tt)) a vals) (WpFn 𝓤 H C Λ (lent_body callee) (v ∷ vptr b o ∷ []) Post)
       walk p =
-          qed 𝓛 ((‵ (flft κ q) ⊛ ‵ (flft κ' q') ⊛ ‵ ftrue) ∷ ‵ (owns (ShrSlice (named 0) κ u8 ∷ MutRef (named 1) κ' T.the_row ∷ []) a vals) ∷ []) ∵ enter ! C Λ (lent-body callee) (v ∷ vptr b o ∷ []) _ $
+          qed 𝓛 ((‵ (flft κ q) ⊛ ‵ (flft κ' q') ⊛ ‵ ftrue) ∷ ‵ (owns (ShrSlice (named 0) κ u8 ∷ MutRef (named 1) κ' T.the_row ∷ []) a vals) ∷ []) ∵ enter ! C Λ (lent_body callee) (v ∷ vptr b o ∷ []) _ $
           alloc1 ! (λ l₀. alloc1 ! (λ l₁. alloc1 ! (λ l₂. alloc1 ! (λ l₃. alloc1 ! (λ l₄. alloc0 ! $ params1 ! $
           pass1 ! (init ! 6 refl ((shr_slice_Lawful 𝓛 (named 0) κ u8).typed s (v ∷ []) p).0) $ pass1 ! (init ! 4 refl (tt, tt)) $ pass0 ! $
           -- [_4; …; _3; …; _2; …; _1; …; room for _0; …; the tokens; what s and r own]
@@ -132,7 +132,7 @@ module _ (answer : List ℕ → Runner → Told) (leaves : List ℕ → Runner �
           move ! (8 ∷ []) $ use1 𝓛 (‵ Own ⊛ ‵ Own) ((shr_slice_copy 𝓛 (named 0) κ u8).twice s (v ∷ [])) $ split ! $
           move ! (8 ∷ 0 ∷ []) $ use2 𝓛 (raw ((ByValue answer leaves 𝓤 𝓛).pre to)) (asked was) $
           calls_at ! fm (ByValue answer leaves 𝓤 𝓛) known to (and_then ! (load ! (from ! (stop !)) (look ! 15 refl)) (and_then ! (load ! (from ! (stop !)) (look ! 9 refl)) (no_more !))) (λ w.
-          use1 𝓛 (later (some (λ (r : RunnerOutcome). ((‵ (flft κ q) ⊛ ‵ ftrue) ⊛ ‵ ((S.the_row).own_val r (w ∷ []))) ⊛ raw (ensured 𝓛 by_value (value-clauses answer leaves 𝓤) (κ, tt) (s, (h, tt)) tt r)))) (id⊢ 𝓤 _) $ await ! tt $ pick ! (λ r.
+          use1 𝓛 (later (some (λ (r : RunnerOutcome). ((‵ (flft κ q) ⊛ ‵ ftrue) ⊛ ‵ ((S.the_row).own_val r (w ∷ []))) ⊛ raw (ensured 𝓛 by_value (value_clauses answer leaves 𝓤) (κ, tt) (s, (h, tt)) tt r)))) (id⊢ 𝓤 _) $ await ! tt $ pick ! (λ r.
           split ! $ move ! (1 ∷ []) $ use1 𝓛 (raw (fact 𝓤 (Kept r))) (said r) $ heard ! (Kept r) (λ e. split ! $ move ! (1 ∷ []) $
           peeks ! S.the_row (Is S.the_row) (shows 𝓛 S.the_row) r (w ∷ []) (λ is.
           land ! (from ! (stop !)) (init ! 12 refl ((LL.lawful S.the_type S'.the_laws 𝓛).typed r _ is).0) $
@@ -149,17 +149,17 @@ module _ (answer : List ℕ → Runner → Told) (leaves : List ℕ → Runner �
   module _ {M : Type 1} {𝓤 : Ura M} (𝓛 : Logic 𝓤) where
     open 𝓛 use {H}
 
-    lent-walks : (callee : Name) (C : Calls 𝓤 H) (Λ : Loops 𝓤 H) → FmC 𝓤 H 𝓛.laws C → Triple 𝓤 (C callee) (ByValue answer leaves 𝓤 𝓛) → Walks 𝓛 lent stayed (WpFn 𝓤 H C Λ (lent-body callee)) (lent-clauses answer leaves 𝓤)
-    lent-walks callee C Λ fm known = walked 𝓛 lent stayed (lent-clauses answer leaves 𝓤) (WpFn 𝓤 H C Λ (lent-body callee)) (λ κs. (shr_slice_vals, (mut_vals, tt))) (λ κs. (shr_slice_Tells (named 0) κs.0 u8, (mut_Tells (named 1) κs.1.0 T.the_row, tt)))
+    lent_walks : (callee : Name) (C : Calls 𝓤 H) (Λ : Loops 𝓤 H) → FmC 𝓤 H 𝓛.laws C → Triple 𝓤 (C callee) (ByValue answer leaves 𝓤 𝓛) → Walks 𝓛 lent stayed (WpFn 𝓤 H C Λ (lent_body callee)) (lent_clauses answer leaves 𝓤)
+    lent_walks callee C Λ fm known = walked 𝓛 lent stayed (lent_clauses answer leaves 𝓤) (WpFn 𝓤 H C Λ (lent_body callee)) (λ κs. (shr_slice_vals, (mut_vals, tt))) (λ κs. (shr_slice_Tells (named 0) κs.0 u8, (mut_Tells (named 1) κs.1.0 T.the_row, tt)))
         (λ κs qs bounds a _ are. via 𝓤 _ (fst∗ 𝓤 _ (emp 𝓤)) (walk 𝓛 κs.0 κs.1.0 bounds qs.0 qs.1.0 a.0 a.1.0.ref_ptr.0 a.1.0.ref_ptr.1 a.1.0.ghost_name a.1.0.now callee C Λ fm known are.0))
 
     goes : AllGo 𝓛 2 lent.signature.params lent.kept stayed
     goes = (Goes-none_slice 𝓛 2 (0 ∷ []) tt (plain (λ _. u8)) yes, (Goes-ref 𝓛 2 1 tt (plain (λ _. T.the_row)), tt))
 
   -- a function with this body, whose callee meets its contract, meets the lent form's
-  pub lent-meets : {M : Type 1} {𝓤 : Ura M} (𝓛 : Logic 𝓤) (𝓜 : Model 𝓤 𝓛.H) (𝓡 : Running 𝓤 𝓛.H 𝓜) (env : Env) (key callee : Name)
-      → Closed 𝓤 𝓛.H (tables 𝓤 𝓛.H 𝓜 𝓡 env).C (tables 𝓤 𝓛.H 𝓜 𝓡 env).Λ key (lent-body callee)
+  pub lent_meets : {M : Type 1} {𝓤 : Ura M} (𝓛 : Logic 𝓤) (𝓜 : Model 𝓤 𝓛.H) (𝓡 : Running 𝓤 𝓛.H 𝓜) (env : Env) (key callee : Name)
+      → Closed 𝓤 𝓛.H (tables 𝓤 𝓛.H 𝓜 𝓡 env).C (tables 𝓤 𝓛.H 𝓜 𝓡 env).Λ key (lent_body callee)
       → (routine : Routine) → env callee ≡ routine → Triple 𝓤 (𝓡.run routine) (ByValue answer leaves 𝓤 𝓛)
       → Triple 𝓤 ((tables 𝓤 𝓛.H 𝓜 𝓡 env).C key) (Lent answer leaves 𝓤 𝓛)
-  lent-meets {𝓤 = 𝓤} 𝓛 𝓜 𝓡 env key callee closed routine calls met =
-      by-walk 𝓛 𝓜 𝓡 lent stayed (goes 𝓛) (lent-clauses answer leaves 𝓤) env key (lent-body callee) closed callee routine calls (ByValue answer leaves 𝓤 𝓛) met (lent-walks 𝓛 callee)
+  lent_meets {𝓤 = 𝓤} 𝓛 𝓜 𝓡 env key callee closed routine calls met =
+      by_walk 𝓛 𝓜 𝓡 lent stayed (goes 𝓛) (lent_clauses answer leaves 𝓤) env key (lent_body callee) closed callee routine calls (ByValue answer leaves 𝓤 𝓛) met (lent_walks 𝓛 callee)

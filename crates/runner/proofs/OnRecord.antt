@@ -46,16 +46,16 @@ use Rattle.answers.specs.contracts.Outcome as O
 use Rattle.answers.proofs.Outcome.TheLaws as O'
 use Rattle.runner.specs.declared.Runner.{Runner}
 use Rattle.runner.specs.declared.records.RunnerOutcome.{RunnerOutcome}
-use Rattle.runner.proofs.ByHand.{by-walk}
-use Rattle.runner.proofs.Forms.{lent, by_value, Promise, lent-clauses, value-clauses, Lent, ByValue}
+use Rattle.runner.proofs.ByHand.{by_walk}
+use Rattle.runner.proofs.Forms.{lent, by_value, Promise, lent_clauses, value_clauses, Lent, ByValue}
 use Rattle.runner.specs.contracts.Runner as T
 use Rattle.runner.proofs.Runner.TheLaws as T'
 use Rattle.runner.specs.contracts.records.RunnerOutcome as S
 use Rattle.runner.proofs.records.RunnerOutcome.TheLaws as S'
 
 -- its body, by the callee's name. Locals: the result, the slice, the runner given, the record, the outcome, the reference, the record's last value
-abbrev record-body : Name → Fn
-record-body callee = record {
+abbrev record_body : Name → Fn
+record_body callee = record {
   lifetimes = 1;
   outlives = [];
   params = 2;
@@ -110,22 +110,22 @@ module _ (answer : List ℕ → Runner → Told) (leaves : List ℕ → Runner �
     Lends α l γ = (MutRef (named 1) (α ∷ []) T.the_row).own_val (reference l γ) (vptr l 0 ∷ [])
 
     abbrev Post : Val → SProp 𝓤
-    Post = (walk_of 𝓛 by_value stayed (value-clauses answer leaves 𝓤)).post (((κ, tt), (q, tt), tt, a, vals), tt)
+    Post = (walk_of 𝓛 by_value stayed (value_clauses answer leaves 𝓤)).post (((κ, tt), (q, tt), tt, a, vals), tt)
 
     abbrev to : ℕ → ℕ → GName → (Lent answer leaves 𝓤 𝓛).Ghost
     to α l γ = (((κ, (α ∷ [], tt)), (q, (full_share, tt)), tt, (s, (reference l γ, tt)), (v ∷ [], (vptr l 0 ∷ [], tt))), tt)
 
     abbrev Said : ℕ → ℕ → GName → Outcome → SProp 𝓤
-    Said α l γ x = ensured 𝓛 lent (lent-clauses answer leaves 𝓤) (κ, (α ∷ [], tt)) (s, (reference l γ, tt)) tt x
+    Said α l γ x = ensured 𝓛 lent (lent_clauses answer leaves 𝓤) (κ, (α ∷ [], tt)) (s, (reference l γ, tt)) tt x
 
     -- a record at its own machine value
-    at-vals : (h' : Runner) (u : Val) → Is T.the_row h' (u ∷ []) → Is T.the_row h' (LL.vals T.the_type T'.the_laws h')
-    at-vals h' u was = LL.owes T.the_type T'.the_laws h' (LL.owed T.the_type T'.the_laws h' _ was)
+    at_vals : (h' : Runner) (u : Val) → Is T.the_row h' (u ∷ []) → Is T.the_row h' (LL.vals T.the_type T'.the_laws h')
+    at_vals h' u was = LL.owes T.the_type T'.the_laws h' (LL.owed T.the_type T'.the_laws h' _ was)
 
     -- what is returned, of the outcome that came back and the record's last value
     results : (x : Outcome) (h' : Runner) (w u : Val) → Is O.the_row x (w ∷ []) → Is T.the_row h' (u ∷ []) → Is S.the_row (result x h') (LL.vals S.the_type S'.the_laws (result x h'))
     results x h' w u is was =
-        LL.owes S.the_type S'.the_laws (result x h') (at-vals h' u was, (EL.owes O.the_type O'.the_laws x (EL.owed O.the_type O'.the_laws x _ is), tt))
+        LL.owes S.the_type S'.the_laws (result x h') (at_vals h' u was, (EL.owes O.the_type O'.the_laws x (EL.owed O.the_type O'.the_laws x _ is), tt))
 
     asked : (α l : ℕ) (γ : GName) → ent 𝓤 (sep 𝓤 (sep 𝓤 (A.lft κ q) (A.lft (α ∷ []) full_share)) (sep 𝓤 (sem 𝓛 Own) (sem 𝓛 (Lends α l γ)))) ((Lent answer leaves 𝓤 𝓛).pre (to α l γ))
     asked α l γ =
@@ -141,14 +141,14 @@ module _ (answer : List ℕ → Runner → Told) (leaves : List ℕ → Runner �
     exits : (x : Outcome) (h' : Runner) (z : Val) → Says x h' → Is S.the_row (result x h') (z ∷ []) → ent 𝓤 (sep 𝓤 (A.lft κ q) (sem 𝓛 Own)) (Post z)
     exits x h' z e is =
         qed 𝓛 (‵ (flft κ q) ∷ ‵ Own ∷ []) ∵
-        suffices ! _ (ends_at 𝓛 by_value stayed (value-clauses answer leaves 𝓤) (((κ, tt), (q, tt), tt, a, vals), tt) z (result x h') (tt, (tt, tt)) (tt, (tt, tt))) $ says ! e $
+        suffices ! _ (ends_at 𝓛 by_value stayed (value_clauses answer leaves 𝓤) (((κ, tt), (q, tt), tt, a, vals), tt) z (result x h') (tt, (tt, tt)) (tt, (tt, tt))) $ says ! e $
         nothing ! $ move ! (1 ∷ 0 ∷ []) $ join ! $ frame ! $ nothing ! $ owned ! T.the_row (Is T.the_row) ((LL.makes T.the_type T'.the_plain) 𝓛) h _ made $ fjoin ! $ move ! (1 ∷ 0 ∷ []) $ fjoin ! $
         owned ! S.the_row (Is S.the_row) ((LL.makes S.the_type S'.the_plain) 𝓛) (result x h') _ is $ move ! (1 ∷ 0 ∷ []) $ done !
 
     module _ (callee : Name) (C : Calls 𝓤 H) (Λ : Loops 𝓤 H) (fm : FmC 𝓤 H 𝓛.laws C) (known : Triple 𝓤 (C callee) (Lent answer leaves 𝓤 𝓛)) where
-      walk : Is (ShrSlice (named 0) κ u8) s (v ∷ []) → ent 𝓤 (on_entry 𝓛 by_value.signature (κ, tt) (q, tt) a vals) (WpFn 𝓤 H C Λ (record-body callee) (v ∷ LL.vals T.the_type T'.the_laws h) Post)
+      walk : Is (ShrSlice (named 0) κ u8) s (v ∷ []) → ent 𝓤 (on_entry 𝓛 by_value.signature (κ, tt) (q, tt) a vals) (WpFn 𝓤 H C Λ (record_body callee) (v ∷ LL.vals T.the_type T'.the_laws h) Post)
       walk p =
-          qed 𝓛 ((‵ (flft κ q) ⊛ ‵ ftrue) ∷ ‵ (owns (ShrSlice (named 0) κ u8 ∷ T.the_row ∷ []) a vals) ∷ []) ∵ enter ! C Λ (record-body callee) (v ∷ LL.vals T.the_type T'.the_laws h) _ $
+          qed 𝓛 ((‵ (flft κ q) ⊛ ‵ ftrue) ∷ ‵ (owns (ShrSlice (named 0) κ u8 ∷ T.the_row ∷ []) a vals) ∷ []) ∵ enter ! C Λ (record_body callee) (v ∷ LL.vals T.the_type T'.the_laws h) _ $
           alloc1 ! (λ l₀. alloc1 ! (λ l₁. alloc1 ! (λ l₂. alloc1 ! (λ l₃. alloc1 ! (λ l₄. alloc1 ! (λ l₅. alloc1 ! (λ l₆. alloc0 ! $ params1 ! $
           pass1 ! (init ! 10 refl ((shr_slice_Lawful 𝓛 (named 0) κ u8).typed s (v ∷ []) p).0) $ pass1 ! (init ! 8 refl ((LL.lawful T.the_type T'.the_laws 𝓛).typed h _ made).0) $ pass0 ! $
           -- [_6; …; _5; …; _4; …; _3; …; _2; …; _1; …; room for _0; …; the token; what the parameters own]
@@ -175,7 +175,7 @@ module _ (answer : List ℕ → Runner → Told) (leaves : List ℕ → Runner �
           rewrite ! 1 (λ (z : Val). ‵ (fat full_share T'.mir l₃ 0 z)) (ap only (LL.tells T.the_type T'.the_laws h' (u ∷ []) was)) refl $ drop ! $
           rewrite ! 8 (λ (z : Val). ‵ (fat full_share O'.mir l₄ 0 z)) (ap only (EL.tells O.the_type O'.the_laws x (w ∷ []) is)) refl $
           -- [the record; true; the token; what s owns; _6; …; _5; …; _4; …; d3; _2; …; _1; …; room for _0; …]
-          assigns ! (of_opd ! (load ! (from ! (stop !)) (look ! 0 refl))) (from ! (stop !)) (init ! 4 refl ((LL.lawful T.the_type T'.the_laws 𝓛).typed h' _ (at-vals h' u was)).0) $
+          assigns ! (of_opd ! (load ! (from ! (stop !)) (look ! 0 refl))) (from ! (stop !)) (init ! 4 refl ((LL.lawful T.the_type T'.the_laws 𝓛).typed h' _ (at_vals h' u was)).0) $
           assigns ! (agg ! (and_then ! (load ! (from ! (stop !)) (look ! 4 refl)) (and_then ! (load ! (from ! (stop !)) (look ! 8 refl)) (no_more !)))) (from ! (stop !)) (init ! 15 refl ((LL.lawful S.the_type S'.the_laws 𝓛).typed (result x h') _ (results x h' w u is was)).0) $
           returns ! (look ! 15 refl) $ forget ! 0 refl $ forget ! 4 refl $ forget ! 6 refl $ forget ! 8 refl $ forget ! 11 refl $ forget ! 13 refl $ forget ! 15 refl $
           move ! (15 ∷ 16 ∷ []) $ free1 ! $ move ! (13 ∷ 14 ∷ []) $ free1 ! $ move ! (11 ∷ 12 ∷ []) $ free1 ! $ move ! (0 ∷ 10 ∷ []) $ free1 ! $ move ! (7 ∷ 8 ∷ []) $ free1 ! $ move ! (5 ∷ 6 ∷ []) $ free1 ! $
@@ -184,17 +184,17 @@ module _ (answer : List ℕ → Runner → Told) (leaves : List ℕ → Runner �
   module _ {M : Type 1} {𝓤 : Ura M} (𝓛 : Logic 𝓤) where
     open 𝓛 use {H}
 
-    record-walks : (callee : Name) (C : Calls 𝓤 H) (Λ : Loops 𝓤 H) → FmC 𝓤 H 𝓛.laws C → Triple 𝓤 (C callee) (Lent answer leaves 𝓤 𝓛) → Walks 𝓛 by_value stayed (WpFn 𝓤 H C Λ (record-body callee)) (value-clauses answer leaves 𝓤)
-    record-walks callee C Λ fm known = walked 𝓛 by_value stayed (value-clauses answer leaves 𝓤) (WpFn 𝓤 H C Λ (record-body callee)) (λ κs. (shr_slice_vals, (LL.vals T.the_type T'.the_laws, tt))) (λ κs. (shr_slice_Tells (named 0) κs.0 u8, (LL.tells T.the_type T'.the_laws, tt)))
+    record_walks : (callee : Name) (C : Calls 𝓤 H) (Λ : Loops 𝓤 H) → FmC 𝓤 H 𝓛.laws C → Triple 𝓤 (C callee) (Lent answer leaves 𝓤 𝓛) → Walks 𝓛 by_value stayed (WpFn 𝓤 H C Λ (record_body callee)) (value_clauses answer leaves 𝓤)
+    record_walks callee C Λ fm known = walked 𝓛 by_value stayed (value_clauses answer leaves 𝓤) (WpFn 𝓤 H C Λ (record_body callee)) (λ κs. (shr_slice_vals, (LL.vals T.the_type T'.the_laws, tt))) (λ κs. (shr_slice_Tells (named 0) κs.0 u8, (LL.tells T.the_type T'.the_laws, tt)))
         (λ κs qs bounds a _ are. via 𝓤 _ (fst∗ 𝓤 _ (emp 𝓤)) (walk 𝓛 κs.0 qs.0 a.0 a.1.0 are.1.0 callee C Λ fm known are.0))
 
     goes : AllGo 𝓛 1 by_value.signature.params by_value.kept stayed
     goes = (Goes-none_slice 𝓛 1 (0 ∷ []) tt (plain (λ _. u8)) yes, (Goes-none 𝓛 1 (λ _. T.the_row) yes (λ κs x f. refl), tt))
 
   -- a function with this body, whose callee meets the lent form's contract, meets the one by value
-  pub record-meets : {M : Type 1} {𝓤 : Ura M} (𝓛 : Logic 𝓤) (𝓜 : Model 𝓤 𝓛.H) (𝓡 : Running 𝓤 𝓛.H 𝓜) (env : Env) (key callee : Name)
-      → Closed 𝓤 𝓛.H (tables 𝓤 𝓛.H 𝓜 𝓡 env).C (tables 𝓤 𝓛.H 𝓜 𝓡 env).Λ key (record-body callee)
+  pub record_meets : {M : Type 1} {𝓤 : Ura M} (𝓛 : Logic 𝓤) (𝓜 : Model 𝓤 𝓛.H) (𝓡 : Running 𝓤 𝓛.H 𝓜) (env : Env) (key callee : Name)
+      → Closed 𝓤 𝓛.H (tables 𝓤 𝓛.H 𝓜 𝓡 env).C (tables 𝓤 𝓛.H 𝓜 𝓡 env).Λ key (record_body callee)
       → (routine : Routine) → env callee ≡ routine → Triple 𝓤 (𝓡.run routine) (Lent answer leaves 𝓤 𝓛)
       → Triple 𝓤 ((tables 𝓤 𝓛.H 𝓜 𝓡 env).C key) (ByValue answer leaves 𝓤 𝓛)
-  record-meets {𝓤 = 𝓤} 𝓛 𝓜 𝓡 env key callee closed routine calls met =
-      by-walk 𝓛 𝓜 𝓡 by_value stayed (goes 𝓛) (value-clauses answer leaves 𝓤) env key (record-body callee) closed callee routine calls (Lent answer leaves 𝓤 𝓛) met (record-walks 𝓛 callee)
+  record_meets {𝓤 = 𝓤} 𝓛 𝓜 𝓡 env key callee closed routine calls met =
+      by_walk 𝓛 𝓜 𝓡 by_value stayed (goes 𝓛) (value_clauses answer leaves 𝓤) env key (record_body callee) closed callee routine calls (Lent answer leaves 𝓤 𝓛) met (record_walks 𝓛 callee)

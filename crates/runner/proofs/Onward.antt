@@ -8,234 +8,234 @@ use Prim.Native.Nat.{ℕ, zero, suc, ◌+◌, ◌*◌, ◌/◌, ◌%◌, ◌≤�
 use native.Mathlib.Nat.{mod-lt, suc-mul}
 use native.Mathlib.Omega.{arith}
 use lib.Dec.{ltb}
-use Rattle.integers.proofs.Order.{le-or-lt}
+use Rattle.integers.proofs.Order.{le_or_lt}
 use Rattle.ends.specs.declared.EndKind.{EndKind}
 use Rattle.ends.specs.declared.EndKind.TheVariants.{Free, Held, Closed}
-use Rattle.sheet.proofs.Laws.{accepted-bounds, accepted-read}
+use Rattle.sheet.proofs.Laws.{accepted_bounds, accepted_read}
 use Rattle.sheet.specs.Answers.{refused}
-use Rattle.sheet.specs.Bytes.{sumBelow}
+use Rattle.sheet.specs.Bytes.{sum_below}
 use Rattle.sheet.specs.Fields.{kind, legs, leg, ticks}
 use Rattle.sheet.specs.Reading.{Accepted}
 use Rattle.sheet.specs.declared.Refusal.TheVariants.{Landed}
-use Rattle.runner.specs.Ticks.{runner, atLap, found, isOpen, reduced, lapsIn, spotAt, tickOf, ticksFlown}
-use Rattle.runner.specs.Steps.{adrift, mostLaps, nextLap, landed, lastStep, moved, stepped, onward, repeated, after, flownTo, steppedBy, onwardBy}
+use Rattle.runner.specs.Ticks.{runner, at_lap, found, is_open, reduced, laps_in, spot_at, tick_of, ticks_flown}
+use Rattle.runner.specs.Steps.{adrift, most_laps, next_lap, landed, last_step, moved, stepped, onward, repeated, after, flown_to, stepped_by, onward_by}
 use Rattle.runner.specs.Theorems.{Stands, ClosedSteps, ClosedStepsOn, OpenSteps, StepBefore}
 use Rattle.runner.specs.Restored.{KeepsLap}
 use Rattle.runner.specs.declared.Runner.{Runner}
-use Rattle.integers.proofs.Rounds.{same-round, next-round}
+use Rattle.integers.proofs.Rounds.{same_round, next_round}
 use Rattle.runner.proofs.Walk.{by_order}
-use Rattle.runner.proofs.Standing.{LapsFit, Standing, on-leg, at-end, standing, not-adrift, landed-at-end, not-landed, leg-below, laps-fit, closed-laps-fit, has-legs, tick-before, tick-at-end, has_tick, no-lap-flown, spot-standing, spot-of-tick, parts-flown, spot-only}
+use Rattle.runner.proofs.Standing.{LapsFit, Standing, on_leg, at_end, standing, not_adrift, landed_at_end, not_landed, leg_below, laps_fit, closed_laps_fit, has_legs, tick_before, tick_at_end, has_tick, no_lap_flown, spot_standing, spot_of_tick, parts_flown, spot_only}
 
-pub open-or-closed : (k : EndKind) → (isOpen k ≡ true) ⊎ (k ≡ Closed)
-open-or-closed Free = inl refl
-open-or-closed Held = inl refl
-open-or-closed Closed = inr refl
+pub open_or_closed : (k : EndKind) → (is_open k ≡ true) ⊎ (k ≡ Closed)
+open_or_closed Free = inl refl
+open_or_closed Held = inl refl
+open_or_closed Closed = inr refl
 
-last-open : (k : EndKind) (r : Runner) → isOpen k ≡ true → lastStep k r ≡ atLap r.laps (runner r.leg (suc r.offset))
-last-open Free r o = refl
-last-open Held r o = refl
-last-open Closed r o = absurd (false≢true o)
+last_open : (k : EndKind) (r : Runner) → is_open k ≡ true → last_step k r ≡ at_lap r.laps (runner r.leg (suc r.offset))
+last_open Free r o = refl
+last_open Held r o = refl
+last_open Closed r o = absurd (false≢true o)
 
 -- where a step leads from r: one tick on, the laps as they were, or from a closed course's last tick to the first waypoint, a lap more
 pub data Onto (s : List ℕ) (r x : Runner) : Type 0 where
-  next-tick : Standing s x → tickOf s x ≡ suc (tickOf s r) → x.laps ≡ r.laps → Onto s r x
-  first-waypoint : kind s ≡ Closed → suc (tickOf s r) ≡ ticks s → x ≡ atLap (nextLap r.laps) (runner 0 0) → Onto s r x
+  next_tick : Standing s x → tick_of s x ≡ suc (tick_of s r) → x.laps ≡ r.laps → Onto s r x
+  first_waypoint : kind s ≡ Closed → suc (tick_of s r) ≡ ticks s → x ≡ at_lap (next_lap r.laps) (runner 0 0) → Onto s r x
 
 module _ (s : List ℕ) (a : Accepted s) where
-  leg-low : (i : ℕ) → i < legs s → 1 ≤ leg s i
-  leg-low = (accepted-bounds s a).leg-low
+  leg_low : (i : ℕ) → i < legs s → 1 ≤ leg s i
+  leg_low = (accepted_bounds s a).leg_low
 
-  some-ticks : 1 ≤ ticks s
-  some-ticks = (accepted-bounds s a).some-ticks
+  some_ticks : 1 ≤ ticks s
+  some_ticks = (accepted_bounds s a).some_ticks
 
   -- at the first waypoint
-  pub first-standing : (l : ℕ) → LapsFit s (atLap l (runner 0 0)) → Standing s (atLap l (runner 0 0))
-  first-standing l w = on-leg (has-legs s a) (leg-low 0 (has-legs s a)) w
+  pub first_standing : (l : ℕ) → LapsFit s (at_lap l (runner 0 0)) → Standing s (at_lap l (runner 0 0))
+  first_standing l w = on_leg (has_legs s a) (leg_low 0 (has_legs s a)) w
 
-  pub first-tick : (l : ℕ) → tickOf s (atLap l (runner 0 0)) ≡ 0
-  unfolding tickOf sumBelow
-  first-tick l = refl
+  pub first_tick : (l : ℕ) → tick_of s (at_lap l (runner 0 0)) ≡ 0
+  unfolding tick_of sum_below
+  first_tick l = refl
 
   -- from the last tick of the last leg
-  last-onto : (r : Runner) → LapsFit s r → suc r.leg ≡ legs s → suc r.offset ≡ leg s r.leg → Onto s r (lastStep (kind s) r)
-  unfolding tickOf sumBelow
-  last-onto r w p q = ⊎_elim to_end round (open-or-closed (kind s))
+  last_onto : (r : Runner) → LapsFit s r → suc r.leg ≡ legs s → suc r.offset ≡ leg s r.leg → Onto s r (last_step (kind s) r)
+  unfolding tick_of sum_below
+  last_onto r w p q = ⊎_elim to_end round (open_or_closed (kind s))
     where
-      to_end : isOpen (kind s) ≡ true → Onto s r (lastStep (kind s) r)
-      to_end o = subst (Onto s r) (sym (last-open (kind s) r o)) (next-tick (at-end o p q (w o)) (omega arith) refl)
+      to_end : is_open (kind s) ≡ true → Onto s r (last_step (kind s) r)
+      to_end o = subst (Onto s r) (sym (last_open (kind s) r o)) (next_tick (at_end o p q (w o)) (omega arith) refl)
 
-      round : kind s ≡ Closed → Onto s r (lastStep (kind s) r)
-      round e = first-waypoint e (omega (arith, ap (sumBelow (leg s)) p)) (ap (λ k. lastStep k r) e)
+      round : kind s ≡ Closed → Onto s r (last_step (kind s) r)
+      round e = first_waypoint e (omega (arith, ap (sum_below (leg s)) p)) (ap (λ k. last_step k r) e)
 
   -- the one lemma: a runner that has not landed
-  pub moved-onto : (r : Runner) → LapsFit s r → r.leg < legs s → r.offset < leg s r.leg → Onto s r (moved s r)
-  unfolding moved tickOf sumBelow
-  moved-onto r w p q =
-      let on = atLap r.laps (runner r.leg (suc r.offset)) in
-      let next = atLap r.laps (runner (suc r.leg) 0) in
-      let last = lastStep (kind s) r in
+  pub moved_onto : (r : Runner) → LapsFit s r → r.leg < legs s → r.offset < leg s r.leg → Onto s r (moved s r)
+  unfolding moved tick_of sum_below
+  moved_onto r w p q =
+      let on = at_lap r.laps (runner r.leg (suc r.offset)) in
+      let next = at_lap r.laps (runner (suc r.leg) 0) in
+      let last = last_step (kind s) r in
       by_order (suc r.offset) (leg s r.leg) on (cond (ltb (suc r.leg) (legs s)) next last) (Onto s r)
-      (λ more. next-tick (on-leg p more w) (omega arith) refl)
+      (λ more. next_tick (on_leg p more w) (omega arith) refl)
       (λ full. by_order (suc r.leg) (legs s) next last (Onto s r)
-      (λ more. next-tick (on-leg more (leg-low (suc r.leg) more) w) (omega arith) refl)
-      (λ none. last-onto r w (omega arith) (omega arith)))
+      (λ more. next_tick (on_leg more (leg_low (suc r.leg) more) w) (omega arith) refl)
+      (λ none. last_onto r w (omega arith) (omega arith)))
 
-  pub onto-standing : (r x : Runner) → Onto s r x → Standing s x
-  onto-standing r x (next-tick st t l) = st
-  onto-standing r x (first-waypoint e f at) = subst (Standing s) (sym at) (first-standing (nextLap r.laps) (closed-laps-fit s (atLap (nextLap r.laps) (runner 0 0)) e))
+  pub onto_standing : (r x : Runner) → Onto s r x → Standing s x
+  onto_standing r x (next_tick st t l) = st
+  onto_standing r x (first_waypoint e f at) = subst (Standing s) (sym at) (first_standing (next_lap r.laps) (closed_laps_fit s (at_lap (next_lap r.laps) (runner 0 0)) e))
 
   -- a tick more is flown, unless the lap is not counted any more
-  pub onto-flown : (r x : Runner) → Onto s r x → ¬ KeepsLap s r → ticksFlown s x ≡ suc (ticksFlown s r)
-  unfolding ticksFlown
-  onto-flown r x (next-tick st t l) counted = (λ i. l i * ticks s + t i) ∙ omega arith
-  onto-flown r x (first-waypoint e f at) counted =
-      let fewer = le-or-lt mostLaps r.laps (r.laps < mostLaps) (λ h. absurd (counted (e, f, h))) (λ h. h) in
-      let one_more : nextLap r.laps ≡ suc r.laps = omega arith in
-      ap (λ (y : Runner). y.laps * ticks s + tickOf s y) at
-      ∙ (λ i. one_more i * ticks s + first-tick (nextLap r.laps) i)
+  pub onto_flown : (r x : Runner) → Onto s r x → ¬ KeepsLap s r → ticks_flown s x ≡ suc (ticks_flown s r)
+  unfolding ticks_flown
+  onto_flown r x (next_tick st t l) counted = (λ i. l i * ticks s + t i) ∙ omega arith
+  onto_flown r x (first_waypoint e f at) counted =
+      let fewer = le_or_lt most_laps r.laps (r.laps < most_laps) (λ h. absurd (counted (e, f, h))) (λ h. h) in
+      let one_more : next_lap r.laps ≡ suc r.laps = omega arith in
+      ap (λ (y : Runner). y.laps * ticks s + tick_of s y) at
+      ∙ (λ i. one_more i * ticks s + first_tick (next_lap r.laps) i)
       ∙ omega (arith, suc-mul r.laps (ticks s))
 
   -- before the end a step answers where the runner has moved on to ..
-  pub step-done : (r : Runner) → Standing s r → r.offset < leg s r.leg → stepped s r ≡ found (moved s r)
-  unfolding steppedBy
-  step-done r st q = simp (accepted-read s a, not-adrift s r st, not-landed s r q)
+  pub step_done : (r : Runner) → Standing s r → r.offset < leg s r.leg → stepped s r ≡ found (moved s r)
+  unfolding stepped_by
+  step_done r st q = simp (accepted_read s a, not_adrift s r st, not_landed s r q)
 
-  pub onward-done : (r : Runner) → Standing s r → r.offset < leg s r.leg → onward s r ≡ moved s r
-  unfolding onwardBy
-  onward-done r st q = rw (step-done r st q)
+  pub onward_done : (r : Runner) → Standing s r → r.offset < leg s r.leg → onward s r ≡ moved s r
+  unfolding onward_by
+  onward_done r st q = rw (step_done r st q)
 
-  pub onward-onto : (r : Runner) → Standing s r → r.offset < leg s r.leg → Onto s r (onward s r)
-  onward-onto r st q = subst (Onto s r) (sym (onward-done r st q)) (moved-onto r (laps-fit s r st) (leg-below s r st) q)
+  pub onward_onto : (r : Runner) → Standing s r → r.offset < leg s r.leg → Onto s r (onward s r)
+  onward_onto r st q = subst (Onto s r) (sym (onward_done r st q)) (moved_onto r (laps_fit s r st) (leg_below s r st) q)
 
   -- .. and at the end landed
-  step-landed : (r : Runner) → Standing s r → isOpen (kind s) ≡ true → suc r.leg ≡ legs s → r.offset ≡ leg s r.leg → stepped s r ≡ refused Landed
-  unfolding steppedBy
-  step-landed r st o p q = simp (accepted-read s a, not-adrift s r st, landed-at-end s r o p q)
+  step_landed : (r : Runner) → Standing s r → is_open (kind s) ≡ true → suc r.leg ≡ legs s → r.offset ≡ leg s r.leg → stepped s r ≡ refused Landed
+  unfolding stepped_by
+  step_landed r st o p q = simp (accepted_read s a, not_adrift s r st, landed_at_end s r o p q)
 
-  onward-landed : (r : Runner) → Standing s r → isOpen (kind s) ≡ true → suc r.leg ≡ legs s → r.offset ≡ leg s r.leg → onward s r ≡ r
-  unfolding onwardBy
-  onward-landed r st o p q = rw (step-landed r st o p q)
+  onward_landed : (r : Runner) → Standing s r → is_open (kind s) ≡ true → suc r.leg ≡ legs s → r.offset ≡ leg s r.leg → onward s r ≡ r
+  unfolding onward_by
+  onward_landed r st o p q = rw (step_landed r st o p q)
 
   -- a runner that is moved on still fits the sheet
-  pub moved-fits : (r : Runner) → adrift s r ≡ false → landed s r ≡ false → adrift s (moved s r) ≡ false
-  moved-fits r e l = by_place (standing s r e)
+  pub moved_fits : (r : Runner) → adrift s r ≡ false → landed s r ≡ false → adrift s (moved s r) ≡ false
+  moved_fits r e l = by_place (standing s r e)
     where
       by_place : Standing s r → adrift s (moved s r) ≡ false
-      by_place (on-leg p q w) = not-adrift s (moved s r) (onto-standing r (moved s r) (moved-onto r w p q))
-      by_place (at-end o p q z) = absurd (true≢false (sym (landed-at-end s r o p q) ∙ l))
+      by_place (on_leg p q w) = not_adrift s (moved s r) (onto_standing r (moved s r) (moved_onto r w p q))
+      by_place (at_end o p q z) = absurd (true≢false (sym (landed_at_end s r o p q) ∙ l))
 
   -- ---- an open course
-  module _ (o : isOpen (kind s) ≡ true) where
+  module _ (o : is_open (kind s) ≡ true) where
     -- its runners have no laps, so that they have flown their ticks
-    pub open-flown : (r : Runner) → Standing s r → ticksFlown s r ≡ tickOf s r
-    open-flown r st = no-lap-flown s r (laps-fit s r st o)
+    pub open_flown : (r : Runner) → Standing s r → ticks_flown s r ≡ tick_of s r
+    open_flown r st = no_lap_flown s r (laps_fit s r st o)
 
     pub counts_all : (r : Runner) → ¬ KeepsLap s r
-    counts_all r k = false≢true (sym (ap isOpen k.0) ∙ o)
+    counts_all r k = false≢true (sym (ap is_open k.0) ∙ o)
 
-    open-onward : (r : Runner) → Standing s r → Stands s (min (suc (ticksFlown s r)) (ticks s)) (onward s r)
-    open-onward r (on-leg p q w) =
-        let st = on-leg p q w in
-        let on = onward-onto r st q in
-        let few : ticksFlown s r < ticks s = omega (arith, open-flown r st, tick-before s r p q) in
-        record { fits = not-adrift s (onward s r) (onto-standing r (onward s r) on); flown = onto-flown r (onward s r) on (counts_all r) ∙ omega arith }
-    open-onward r (at-end x p q z) =
-        let st = at-end x p q z in
-        let here : ticksFlown s r ≡ min (suc (ticksFlown s r)) (ticks s) = omega (arith, open-flown r st, tick-at-end s r p q) in
-        subst (Stands s _) (sym (onward-landed r st o p q)) (record { fits = not-adrift s r st; flown = here })
+    open_onward : (r : Runner) → Standing s r → Stands s (min (suc (ticks_flown s r)) (ticks s)) (onward s r)
+    open_onward r (on_leg p q w) =
+        let st = on_leg p q w in
+        let on = onward_onto r st q in
+        let few : ticks_flown s r < ticks s = omega (arith, open_flown r st, tick_before s r p q) in
+        record { fits = not_adrift s (onward s r) (onto_standing r (onward s r) on); flown = onto_flown r (onward s r) on (counts_all r) ∙ omega arith }
+    open_onward r (at_end x p q z) =
+        let st = at_end x p q z in
+        let here : ticks_flown s r ≡ min (suc (ticks_flown s r)) (ticks s) = omega (arith, open_flown r st, tick_at_end s r p q) in
+        subst (Stands s _) (sym (onward_landed r st o p q)) (record { fits = not_adrift s r st; flown = here })
 
-    pub open-steps-stand : (r : Runner) → Standing s r → (n : ℕ) → Stands s (min (ticksFlown s r + n) (ticks s)) (repeated (onward s) n r)
+    pub open_steps_stand : (r : Runner) → Standing s r → (n : ℕ) → Stands s (min (ticks_flown s r + n) (ticks s)) (repeated (onward s) n r)
     unfolding repeated
-    open-steps-stand r st zero = record { fits = not-adrift s r st; flown = ⊎_elim (λ q. omega (arith, open-flown r st)) (λ w. omega (arith, open-flown r st)) (has_tick s r st) }
-    open-steps-stand r st (suc n) =
+    open_steps_stand r st zero = record { fits = not_adrift s r st; flown = ⊎_elim (λ q. omega (arith, open_flown r st)) (λ w. omega (arith, open_flown r st)) (has_tick s r st) }
+    open_steps_stand r st (suc n) =
         let m = repeated (onward s) n r in
-        let w = open-steps-stand r st n in
-        subst (λ k. Stands s k (onward s m)) (omega (arith, w.flown)) (open-onward m (standing s m w.fits))
+        let w = open_steps_stand r st n in
+        subst (λ k. Stands s k (onward s m)) (omega (arith, w.flown)) (open_onward m (standing s m w.fits))
 
   -- ---- a closed course
   module _ (e : kind s ≡ Closed) where
-    pub closed-below : (r : Runner) → Standing s r → r.offset < leg s r.leg
-    closed-below r (on-leg p q w) = q
-    closed-below r (at-end o p q z) = absurd (false≢true (sym (ap isOpen e) ∙ o))
+    pub closed_below : (r : Runner) → Standing s r → r.offset < leg s r.leg
+    closed_below r (on_leg p q w) = q
+    closed_below r (at_end o p q z) = absurd (false≢true (sym (ap is_open e) ∙ o))
 
-    pub closed-tick : (r : Runner) → Standing s r → tickOf s r < ticks s
-    closed-tick r st = tick-before s r (leg-below s r st) (closed-below r st)
+    pub closed_tick : (r : Runner) → Standing s r → tick_of s r < ticks s
+    closed_tick r st = tick_before s r (leg_below s r st) (closed_below r st)
 
-    reduced-is : (n : ℕ) → reduced (kind s) (ticks s) n ≡ n % ticks s
-    reduced-is n = ap (λ k. reduced k (ticks s) n) e
+    reduced_is : (n : ℕ) → reduced (kind s) (ticks s) n ≡ n % ticks s
+    reduced_is n = ap (λ k. reduced k (ticks s) n) e
 
     -- the runner from tick n, at any laps
-    pub at-laps : (r : Runner) (l : ℕ) → Standing s r → Standing s (atLap l r)
-    at-laps r l st = on-leg (leg-below s r st) (closed-below r st) (closed-laps-fit s (atLap l r) e)
+    pub at_laps : (r : Runner) (l : ℕ) → Standing s r → Standing s (at_lap l r)
+    at_laps r l st = on_leg (leg_below s r st) (closed_below r st) (closed_laps_fit s (at_lap l r) e)
 
-    at_tick : (n l : ℕ) → Standing s (atLap l (spotAt s n)) × (tickOf s (atLap l (spotAt s n)) ≡ n % ticks s)
-    unfolding tickOf
+    at_tick : (n l : ℕ) → Standing s (at_lap l (spot_at s n)) × (tick_of s (at_lap l (spot_at s n)) ≡ n % ticks s)
+    unfolding tick_of
     at_tick n l =
-        let w = spot-standing s n (has-legs s a) (inl (subst (λ t. t < ticks s) (sym (reduced-is n)) (mod-lt n some-ticks))) in
-        let tick = sym (parts-flown s (spotAt s n) w.0).0 ∙ ap (reduced (kind s) (ticks s)) w.1 ∙ reduced-is n in
-        (at-laps (spotAt s n) l w.0, tick)
+        let w = spot_standing s n (has_legs s a) (inl (subst (λ t. t < ticks s) (sym (reduced_is n)) (mod-lt n some_ticks))) in
+        let tick = sym (parts_flown s (spot_at s n) w.0).0 ∙ ap (reduced (kind s) (ticks s)) w.1 ∙ reduced_is n in
+        (at_laps (spot_at s n) l w.0, tick)
 
     -- a step from where n ticks lead
-    onward-flown : (n : ℕ) → onward s (flownTo s n) ≡ flownTo s (suc n)
-    onward-flown n = by-case (onward-onto m here.0 (closed-below m here.0))
+    onward_flown : (n : ℕ) → onward s (flown_to s n) ≡ flown_to s (suc n)
+    onward_flown n = by_case (onward_onto m here.0 (closed_below m here.0))
       where
         m : Runner
-        m = flownTo s n
+        m = flown_to s n
 
-        here : Standing s m × (tickOf s m ≡ n % ticks s)
-        here = at_tick n (min (n / ticks s) mostLaps)
+        here : Standing s m × (tick_of s m ≡ n % ticks s)
+        here = at_tick n (min (n / ticks s) most_laps)
 
-        by-case : Onto s m (onward s m) → onward s m ≡ flownTo s (suc n)
-        by-case (next-tick st t l) =
+        by_case : Onto s m (onward s m) → onward s m ≡ flown_to s (suc n)
+        by_case (next_tick st t l) =
             let x = onward s m in
-            let round = same-round n (ticks s) some-ticks (omega (arith, closed-tick x st, t, here.1)) in
-            sym (spot-of-tick s (suc n) x st (reduced-is (suc n) ∙ round.0 ∙ omega (arith, t, here.1)))
-            ∙ ap (λ k. atLap k (spotAt s (suc n))) (l ∙ ap (λ q. min q mostLaps) (sym round.1))
-        by-case (first-waypoint _ f at) =
-            let first = atLap (nextLap m.laps) (runner 0 0) in
-            let round = next-round n (ticks s) some-ticks (omega (arith, f, here.1)) in
+            let round = same_round n (ticks s) some_ticks (omega (arith, closed_tick x st, t, here.1)) in
+            sym (spot_of_tick s (suc n) x st (reduced_is (suc n) ∙ round.0 ∙ omega (arith, t, here.1)))
+            ∙ ap (λ k. at_lap k (spot_at s (suc n))) (l ∙ ap (λ q. min q most_laps) (sym round.1))
+        by_case (first_waypoint _ f at) =
+            let first = at_lap (next_lap m.laps) (runner 0 0) in
+            let round = next_round n (ticks s) some_ticks (omega (arith, f, here.1)) in
             at
-            ∙ sym (spot-of-tick s (suc n) first (first-standing (nextLap m.laps) (closed-laps-fit s first e)) (reduced-is (suc n) ∙ round.0 ∙ sym (first-tick (nextLap m.laps))))
-            ∙ ap (λ k. atLap k (spotAt s (suc n))) (omega (arith, round.1))
+            ∙ sym (spot_of_tick s (suc n) first (first_standing (next_lap m.laps) (closed_laps_fit s first e)) (reduced_is (suc n) ∙ round.0 ∙ sym (first_tick (next_lap m.laps))))
+            ∙ ap (λ k. at_lap k (spot_at s (suc n))) (omega (arith, round.1))
 
     -- a runner of laps that a record can hold is where its ticks lead, and steps count on from there
-    pub flown-here : (r : Runner) → Standing s r → r.laps ≤ mostLaps → flownTo s (ticksFlown s r) ≡ r
-    flown-here r st few =
-        let n = ticksFlown s r in let w = parts-flown s r st in
-        let laps : n / ticks s ≡ r.laps = ap (λ k. lapsIn k (ticks s) n) (sym e) ∙ w.1 in
-        ap (λ l. atLap l (spotAt s n)) (omega (arith, laps)) ∙ spot-of-tick s n r st w.0
+    pub flown_here : (r : Runner) → Standing s r → r.laps ≤ most_laps → flown_to s (ticks_flown s r) ≡ r
+    flown_here r st few =
+        let n = ticks_flown s r in let w = parts_flown s r st in
+        let laps : n / ticks s ≡ r.laps = ap (λ k. laps_in k (ticks s) n) (sym e) ∙ w.1 in
+        ap (λ l. at_lap l (spot_at s n)) (omega (arith, laps)) ∙ spot_of_tick s n r st w.0
 
-    pub flown-steps : (r : Runner) → Standing s r → r.laps ≤ mostLaps → (n : ℕ) → repeated (onward s) n r ≡ flownTo s (ticksFlown s r + n)
+    pub flown_steps : (r : Runner) → Standing s r → r.laps ≤ most_laps → (n : ℕ) → repeated (onward s) n r ≡ flown_to s (ticks_flown s r + n)
     unfolding repeated
-    flown-steps r st few zero = sym (flown-here r st few) ∙ ap (flownTo s) (omega arith)
-    flown-steps r st few (suc n) = ap (onward s) (flown-steps r st few n) ∙ onward-flown (ticksFlown s r + n) ∙ ap (flownTo s) (omega arith)
+    flown_steps r st few zero = sym (flown_here r st few) ∙ ap (flown_to s) (omega arith)
+    flown_steps r st few (suc n) = ap (onward s) (flown_steps r st few n) ∙ onward_flown (ticks_flown s r + n) ∙ ap (flown_to s) (omega arith)
 
   -- ---- from the first waypoint
-  pub first-flown : ticksFlown s (runner 0 0) ≡ 0
-  first-flown = no-lap-flown s (runner 0 0) refl ∙ first-tick 0
+  pub first_flown : ticks_flown s (runner 0 0) ≡ 0
+  first_flown = no_lap_flown s (runner 0 0) refl ∙ first_tick 0
 
-  after-stands : isOpen (kind s) ≡ true → (n : ℕ) → Stands s (min n (ticks s)) (after s n)
-  after-stands o n = subst (λ k. Stands s (min k (ticks s)) (after s n)) (omega (arith, first-flown)) (open-steps-stand o (runner 0 0) (first-standing 0 (λ _. refl)) n)
+  after_stands : is_open (kind s) ≡ true → (n : ℕ) → Stands s (min n (ticks s)) (after s n)
+  after_stands o n = subst (λ k. Stands s (min k (ticks s)) (after s n)) (omega (arith, first_flown)) (open_steps_stand o (runner 0 0) (first_standing 0 (λ _. refl)) n)
 
-pub closed-steps-on : ClosedStepsOn
-closed-steps-on s a e r fits few n = flown-steps s a e r (standing s r fits) few n
+pub closed_steps_on : ClosedStepsOn
+closed_steps_on s a e r fits few n = flown_steps s a e r (standing s r fits) few n
 
-pub closed-steps : ClosedSteps
-closed-steps s a e n = flown-steps s a e (runner 0 0) (first-standing s a 0 (λ _. refl)) (omega arith) n ∙ ap (flownTo s) (omega (arith, first-flown s a))
+pub closed_steps : ClosedSteps
+closed_steps s a e n = flown_steps s a e (runner 0 0) (first_standing s a 0 (λ _. refl)) (omega arith) n ∙ ap (flown_to s) (omega (arith, first_flown s a))
 
-pub open-steps : OpenSteps
-open-steps s a o n = (spot-only s _ (after s n) stands, λ q. at_last q (standing s (after s n) stands.fits))
+pub open_steps : OpenSteps
+open_steps s a o n = (spot_only s _ (after s n) stands, λ q. at_last q (standing s (after s n) stands.fits))
   where
     stands : Stands s (min n (ticks s)) (after s n)
-    stands = after-stands s a o n
+    stands = after_stands s a o n
 
     at_last : ticks s ≤ n → Standing s (after s n) → stepped s (after s n) ≡ refused Landed
-    at_last q (on-leg p u w) = absurd (omega (arith, tick-before s (after s n) p u, stands.flown, open-flown s a o (after s n) (on-leg p u w)))
-    at_last q (at-end x p u z) = step-landed s a (after s n) (at-end x p u z) x p u
+    at_last q (on_leg p u w) = absurd (omega (arith, tick_before s (after s n) p u, stands.flown, open_flown s a o (after s n) (on_leg p u w)))
+    at_last q (at_end x p u z) = step_landed s a (after s n) (at_end x p u z) x p u
 
-pub step-before : StepBefore
-step-before s a r e = by_place (standing s r e)
+pub step_before : StepBefore
+step_before s a r e = by_place (standing s r e)
   where
-    by_place : Standing s r → (landed s r ≡ true → tickOf s r ≡ ticks s) × (landed s r ≡ false → (stepped s r).number ≡ 0)
-    by_place (on-leg p q w) = (λ l. absurd (true≢false (sym l ∙ not-landed s r q)), λ l. ap (λ t. t.number) (step-done s a r (on-leg p q w) q))
-    by_place (at-end o p q z) = (λ l. tick-at-end s r p q, λ l. absurd (true≢false (sym (landed-at-end s r o p q) ∙ l)))
+    by_place : Standing s r → (landed s r ≡ true → tick_of s r ≡ ticks s) × (landed s r ≡ false → (stepped s r).number ≡ 0)
+    by_place (on_leg p q w) = (λ l. absurd (true≢false (sym l ∙ not_landed s r q)), λ l. ap (λ t. t.number) (step_done s a r (on_leg p q w) q))
+    by_place (at_end o p q z) = (λ l. tick_at_end s r p q, λ l. absurd (true≢false (sym (landed_at_end s r o p q) ∙ l)))

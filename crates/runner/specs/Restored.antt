@@ -5,8 +5,8 @@ use Rattle.sheet.specs.Answers.{refused}
 use Rattle.sheet.specs.Fields.{kind, ticks}
 use Rattle.sheet.specs.Reading.{Accepted}
 use Rattle.sheet.specs.declared.Refusal.TheVariants.{Start}
-use Rattle.runner.specs.Ticks.{atLap, found, tickOf, ticksFlown}
-use Rattle.runner.specs.Steps.{adrift, mostLaps, stepped, onward, repeated}
+use Rattle.runner.specs.Ticks.{at_lap, found, tick_of, ticks_flown}
+use Rattle.runner.specs.Steps.{adrift, most_laps, stepped, onward, repeated}
 use Rattle.runner.specs.Backs.{at_start, backed, backward}
 use Rattle.runner.specs.Theorems.{Stands}
 use Rattle.runner.specs.declared.Runner.{Runner}
@@ -19,15 +19,15 @@ BackBehind = (s : List ℕ) → Accepted s → (r : Runner)
 -- M7: back takes one off the ticks flown; where there is none it is refused with 15 and takes nothing off
 abbrev pub BackTick : Type 0
 BackTick = (s : List ℕ) → Accepted s → (r : Runner) → adrift s r ≡ false
-    → Stands s (ticksFlown s r - 1) (backward s r) × (ticksFlown s r ≡ 0 → backed s r ≡ refused Start)
+    → Stands s (ticks_flown s r - 1) (backward s r) × (ticks_flown s r ≡ 0 → backed s r ≡ refused Start)
 
 -- .. and n backs, for every n, take n off
 abbrev pub BackTicks : Type 0
-BackTicks = (s : List ℕ) → Accepted s → (r : Runner) → adrift s r ≡ false → (n : ℕ) → Stands s (ticksFlown s r - n) (repeated (backward s) n r)
+BackTicks = (s : List ℕ) → Accepted s → (r : Runner) → adrift s r ≡ false → (n : ℕ) → Stands s (ticks_flown s r - n) (repeated (backward s) n r)
 
 -- M8: a step to the first waypoint of a closed course that is made at the largest count of laps, which it keeps
 abbrev pub KeepsLap : List ℕ → Runner → Type 0
-KeepsLap s r = (kind s ≡ Closed) × (suc (tickOf s r) ≡ ticks s) × (mostLaps ≤ r.laps)
+KeepsLap s r = (kind s ≡ Closed) × (suc (tick_of s r) ≡ ticks s) × (most_laps ≤ r.laps)
 
 -- M8: back after any other step that moved answers the runner before the step, and leaves it so where it lies
 abbrev pub BackAfterStep : Type 0
@@ -35,15 +35,15 @@ BackAfterStep = (s : List ℕ) (r : Runner) → (stepped s r).number ≡ 0 → �
 
 -- .. and after such a step it leaves that runner a lap short
 abbrev pub BackAfterKept : Type 0
-BackAfterKept = (s : List ℕ) → Accepted s → (r : Runner) → adrift s r ≡ false → KeepsLap s r → backward s (onward s r) ≡ atLap (mostLaps - 1) r
+BackAfterKept = (s : List ℕ) → Accepted s → (r : Runner) → adrift s r ≡ false → KeepsLap s r → backward s (onward s r) ≡ at_lap (most_laps - 1) r
 
 -- M8: where back moved, of a count of laps that a record can hold, the next step answers and leaves the runner before it
 abbrev pub StepAfterBack : Type 0
-StepAfterBack = (s : List ℕ) (r : Runner) → r.laps ≤ mostLaps → (backed s r).number ≡ 0 → (stepped s (backward s r) ≡ found r) × (onward s (backward s r) ≡ r)
+StepAfterBack = (s : List ℕ) (r : Runner) → r.laps ≤ most_laps → (backed s r).number ≡ 0 → (stepped s (backward s r) ≡ found r) × (onward s (backward s r) ≡ r)
 
 -- M9: there is room for n steps: on a closed course the laps of all ticks stay within the largest count, on an open one n ticks are left
 abbrev pub RoomFor : List ℕ → Runner → ℕ → Type 0
-RoomFor s r n = ((kind s ≡ Closed) × ((ticksFlown s r + n) / ticks s ≤ mostLaps)) ⊎ (ticksFlown s r + n ≤ ticks s)
+RoomFor s r n = ((kind s ≡ Closed) × ((ticks_flown s r + n) / ticks s ≤ most_laps)) ⊎ (ticks_flown s r + n ≤ ticks s)
 
 -- M9: n backs after n steps, for every n that there is room for ..
 abbrev pub BacksAfterSteps : Type 0
@@ -51,5 +51,5 @@ BacksAfterSteps = (s : List ℕ) → Accepted s → (r : Runner) → adrift s r 
 
 -- .. and n steps after n backs, of a runner that has flown n ticks
 abbrev pub StepsAfterBacks : Type 0
-StepsAfterBacks = (s : List ℕ) → Accepted s → (r : Runner) → adrift s r ≡ false → r.laps ≤ mostLaps → (n : ℕ) → n ≤ ticksFlown s r
+StepsAfterBacks = (s : List ℕ) → Accepted s → (r : Runner) → adrift s r ≡ false → r.laps ≤ most_laps → (n : ℕ) → n ≤ ticks_flown s r
     → repeated (onward s) n (repeated (backward s) n r) ≡ r

@@ -1,9 +1,9 @@
 // Back (A12, M6): a runner moved back by one tick, by value and where it lies.
 ghost use Rattle.std.specs.Prelude.{◌≡◌, false, ◌<◌};
-ghost use Rattle.answers.specs.Answers.{toldOutcome, bare};
-ghost use Rattle.runner.specs.Ticks.{IsRead, atLap, toldRunner};
+ghost use Rattle.answers.specs.Answers.{told_outcome, bare};
+ghost use Rattle.runner.specs.Ticks.{IsRead, at_lap, told_runner};
 ghost use Rattle.runner.specs.Steps.{adrift};
-ghost use Rattle.runner.specs.Backs.{at_start, lastTick, movedBack, backed, backward};
+ghost use Rattle.runner.specs.Backs.{at_start, last_tick, moved_back, backed, backward};
 
 use crate::records::{RunnerOutcome, kept};
 use crate::steps::is_adrift;
@@ -23,7 +23,7 @@ fn is_at_start(at: Runner) -> bool
 fn last_tick(s: &[u8], kind: EndKind, legs: usize, leg: u64, laps: u64) -> Runner
     requires read { IsRead s.now kind legs }
     requires leg_lt_legs { leg < legs }
-    ensures { result ≡ atLap laps (lastTick s.now leg) }
+    ensures { result ≡ at_lap laps (last_tick s.now leg) }
 {
     let offset = leg_length(s, leg as usize) - 1;
     Runner { leg, offset, laps }
@@ -33,7 +33,7 @@ fn last_tick(s: &[u8], kind: EndKind, legs: usize, leg: u64, laps: u64) -> Runne
 fn moved_back(s: &[u8], kind: EndKind, legs: usize, at: Runner) -> Runner
     requires read { IsRead s.now kind legs }
     requires at_value { (adrift s.now at ≡ false) × (at_start at ≡ false) }
-    ensures { result ≡ movedBack s.now at }
+    ensures { result ≡ moved_back s.now at }
 {
     let leg = at.leg;
     let offset = at.offset;
@@ -53,7 +53,7 @@ fn moved_back(s: &[u8], kind: EndKind, legs: usize, at: Runner) -> Runner
 
 // Back by value (A12). Tests 1 to 8, 11 and 15.
 pub fn backed(s: &[u8], at: Runner) -> RunnerAnswer
-    ensures { toldRunner result ≡ backed s.now at }
+    ensures { told_runner result ≡ backed s.now at }
 {
     let reading = sheet::read(s);
     let Reading::Course {
@@ -76,14 +76,14 @@ pub fn backed(s: &[u8], at: Runner) -> RunnerAnswer
 
 // The covered back under the lent one (F7): a refused one gives the runner back as it came (A9).
 fn backward(s: &[u8], at: Runner) -> RunnerOutcome
-    ensures { (toldOutcome result.outcome ≡ bare (backed s.now at)) × (result.at ≡ backward s.now at) }
+    ensures { (told_outcome result.outcome ≡ bare (backed s.now at)) × (result.at ≡ backward s.now at) }
 {
     kept(backed(s, at), at)
 }
 
 // M6: back over a lent record. Tests 1 to 8, 11 and 15; a refused one leaves the record alone (A9).
 pub fn back(s: &[u8], r: &mut Runner) -> Outcome
-    ensures { (toldOutcome result ≡ bare (backed s.now r.old)) × (r.new ≡ backward s.now r.old) }
+    ensures { (told_outcome result ≡ bare (backed s.now r.old)) × (r.new ≡ backward s.now r.old) }
 {
     let n = backward(s, *r);
     *r = n.at;
@@ -92,7 +92,7 @@ pub fn back(s: &[u8], r: &mut Runner) -> Outcome
 
 // The lent back on a record of its own, for the program that runs it (crates/runner_runs).
 pub fn back_record(s: &[u8], at: Runner) -> RunnerOutcome
-    ensures { (toldOutcome result.outcome ≡ bare (backed s.now at)) × (result.at ≡ backward s.now at) }
+    ensures { (told_outcome result.outcome ≡ bare (backed s.now at)) × (result.at ≡ backward s.now at) }
 {
     let mut r = at;
     let outcome = back(s, &mut r);

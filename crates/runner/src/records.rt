@@ -1,7 +1,7 @@
 // What step and back leave of a runner (A9): the way from their answer by value to the outcome and the record of their lent forms (F7).
 ghost use Rattle.std.specs.Prelude.{◌≡◌};
-ghost use Rattle.answers.specs.Answers.{toldOutcome, bare};
-ghost use Rattle.runner.specs.Ticks.{toldRunner, left};
+ghost use Rattle.answers.specs.Answers.{told_outcome, bare};
+ghost use Rattle.runner.specs.Ticks.{told_runner, left};
 
 use crate::{Runner, RunnerAnswer};
 use answers::Outcome;
@@ -15,7 +15,7 @@ pub struct RunnerOutcome {
 
 // The runner that is answered, and of a refusal the one that the call was asked of.
 pub fn kept(answer: RunnerAnswer, at: Runner) -> RunnerOutcome
-    ensures { (toldOutcome result.outcome ≡ bare (toldRunner answer)) × (result.at ≡ left answer at) }
+    ensures { (told_outcome result.outcome ≡ bare (told_runner answer)) × (result.at ≡ left answer at) }
 {
     match answer {
         RunnerAnswer::At(next) => RunnerOutcome {

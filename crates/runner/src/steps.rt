@@ -1,8 +1,8 @@
 // The step (A7, M2): a runner moved on by one tick, by value and where it lies.
 ghost use Rattle.std.specs.Prelude.{◌≡◌, false, ◌<◌};
-ghost use Rattle.runner.specs.Ticks.{IsRead, toldRunner};
-ghost use Rattle.answers.specs.Answers.{toldOutcome, bare};
-ghost use Rattle.runner.specs.Steps.{offLegs, adrift, nextLap, landed, moved, stepped, steppedBy, onward, onwardBy};
+ghost use Rattle.runner.specs.Ticks.{IsRead, told_runner};
+ghost use Rattle.answers.specs.Answers.{told_outcome, bare};
+ghost use Rattle.runner.specs.Steps.{off_legs, adrift, next_lap, landed, moved, stepped, stepped_by, onward, onward_by};
 
 use crate::records::{RunnerOutcome, kept};
 use crate::ticks::is_open;
@@ -23,7 +23,7 @@ pub fn is_landed(s: &[u8], kind: EndKind, legs: usize, at: Runner) -> bool
 // N11, of leg and offset: on none of the legs, or not below its leg's length; an open course's end is allowed.
 fn is_off_legs(s: &[u8], kind: EndKind, legs: usize, at: Runner) -> bool
     requires { IsRead s.now kind legs }
-    ensures { result ≡ offLegs s.now at }
+    ensures { result ≡ off_legs s.now at }
 {
     if legs as u64 <= at.leg {
         return true;
@@ -47,7 +47,7 @@ const MOST_LAPS: u64 = 18446744073709551615;
 
 // M10: one lap more, save at the largest count.
 fn next_lap(laps: u64) -> u64
-    ensures { result ≡ nextLap laps }
+    ensures { result ≡ next_lap laps }
 {
     if laps == MOST_LAPS {
         return laps;
@@ -100,7 +100,7 @@ pub fn moved(s: &[u8], kind: EndKind, legs: usize, at: Runner) -> Runner
 
 // The step by value (A7), on sheets with up to `limit` waypoints. Tests 1 to 8, 11 and 13.
 pub fn stepped_by(limit: usize, s: &[u8], at: Runner) -> RunnerAnswer
-    ensures { toldRunner result ≡ steppedBy limit s.now at }
+    ensures { told_runner result ≡ stepped_by limit s.now at }
 {
     let reading = sheet::read_by(limit, s);
     let Reading::Course {
@@ -123,27 +123,27 @@ pub fn stepped_by(limit: usize, s: &[u8], at: Runner) -> RunnerAnswer
 
 // The covered step under the lent ones (F7): a refused one gives the runner back as it came (A9).
 pub fn onward_by(limit: usize, s: &[u8], at: Runner) -> RunnerOutcome
-    ensures { (toldOutcome result.outcome ≡ bare (steppedBy limit s.now at)) × (result.at ≡ onwardBy limit s.now at) }
+    ensures { (told_outcome result.outcome ≡ bare (stepped_by limit s.now at)) × (result.at ≡ onward_by limit s.now at) }
 {
     kept(stepped_by(limit, s, at), at)
 }
 
 // The station's step by value, and the one under its lent step.
 pub fn stepped(s: &[u8], at: Runner) -> RunnerAnswer
-    ensures { toldRunner result ≡ stepped s.now at }
+    ensures { told_runner result ≡ stepped s.now at }
 {
     stepped_by(MOST_POINTS, s, at)
 }
 
 fn onward(s: &[u8], at: Runner) -> RunnerOutcome
-    ensures { (toldOutcome result.outcome ≡ bare (stepped s.now at)) × (result.at ≡ onward s.now at) }
+    ensures { (told_outcome result.outcome ≡ bare (stepped s.now at)) × (result.at ≡ onward s.now at) }
 {
     onward_by(MOST_POINTS, s, at)
 }
 
 // M2: the step over a lent record. Tests 1 to 8, 11 and 13; a refused one leaves the record alone (A9).
 pub fn step(s: &[u8], r: &mut Runner) -> Outcome
-    ensures { (toldOutcome result ≡ bare (stepped s.now r.old)) × (r.new ≡ onward s.now r.old) }
+    ensures { (told_outcome result ≡ bare (stepped s.now r.old)) × (r.new ≡ onward s.now r.old) }
 {
     let n = onward(s, *r);
     *r = n.at;
@@ -152,7 +152,7 @@ pub fn step(s: &[u8], r: &mut Runner) -> Outcome
 
 // The lent step on a record of its own, for the program that runs it (crates/runner_runs).
 pub fn step_record(s: &[u8], at: Runner) -> RunnerOutcome
-    ensures { (toldOutcome result.outcome ≡ bare (stepped s.now at)) × (result.at ≡ onward s.now at) }
+    ensures { (told_outcome result.outcome ≡ bare (stepped s.now at)) × (result.at ≡ onward s.now at) }
 {
     let mut r = at;
     let outcome = step(s, &mut r);

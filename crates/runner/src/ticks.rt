@@ -1,10 +1,10 @@
 // The leg, offset and laps of a tick (P3, P4, P7, M10), and the runner from a tick (A6). For place too.
 ghost use Rattle.std.specs.Prelude.{◌≡◌, ◌&&◌, ℕ, ◌+◌, ◌-◌, ◌*◌, ◌≤◌, ◌<◌, ltb, length, get_or};
-ghost use Rattle.sheet.specs.Bytes.{sumBelow};
+ghost use Rattle.sheet.specs.Bytes.{sum_below};
 ghost use Rattle.sheet.specs.Carried.{stride, Carried};
 ghost use Rattle.sheet.specs.Fields.{leg, ticks as sumOfLegs};
-ghost use Rattle.sheet.specs.Reading.{mostPoints};
-ghost use Rattle.runner.specs.Ticks.{IsRead, isOpen, reduced, lapsIn, atLap, walk, spotAt, runnerAtTick, runnerAtTickBy, toldRunner};
+ghost use Rattle.sheet.specs.Reading.{most_points};
+ghost use Rattle.runner.specs.Ticks.{IsRead, is_open, reduced, laps_in, at_lap, walk, spot_at, runner_at_tick, runner_at_tick_by, told_runner};
 
 use crate::{Runner, RunnerAnswer};
 use ends::EndKind;
@@ -12,7 +12,7 @@ use sheet::{MOST_POINTS, Reading, Refusal, STRIDE, SUMS};
 
 // An open course has ends, free or held.
 pub fn is_open(kind: EndKind) -> bool
-    ensures { result ≡ isOpen kind }
+    ensures { result ≡ is_open kind }
 {
     match kind {
         EndKind::Free => true,
@@ -23,7 +23,7 @@ pub fn is_open(kind: EndKind) -> bool
 
 // N10: an open course has no tick over P.
 pub fn is_past(kind: EndKind, ticks: u64, tick: u64) -> bool
-    ensures { result ≡ (isOpen kind && ltb ticks tick) }
+    ensures { result ≡ (is_open kind && ltb ticks tick) }
 {
     is_open(kind) & (ticks < tick)
 }
@@ -43,7 +43,7 @@ fn reduced(kind: EndKind, ticks: u64, tick: u64) -> u64
 // M10: the whole laps in a tick of a closed course.
 fn laps_in(kind: EndKind, ticks: u64, tick: u64) -> u64
     requires { 1 ≤ ticks }
-    ensures { result ≡ lapsIn kind ticks tick }
+    ensures { result ≡ laps_in kind ticks tick }
 {
     match kind {
         EndKind::Free => 0,
@@ -54,7 +54,7 @@ fn laps_in(kind: EndKind, ticks: u64, tick: u64) -> u64
 
 // P7: by the kept sums, the last sixteenth leg that starts at the tick or before it: at most sixteen legs are left to walk. (No sum is over 131,072: N4, N6.)
 fn sixteenth_at(legs: usize, sums: &[u32; SUMS], tick: u64) -> usize
-    requires le_legs { (1 ≤ legs) × (legs ≤ mostPoints) × (get_or sums.now 0 0 ≤ tick) }
+    requires le_legs { (1 ≤ legs) × (legs ≤ most_points) × (get_or sums.now 0 0 ≤ tick) }
     requires fits { (b : ℕ) → stride * b ≤ legs → get_or sums.now b 0 ≤ 131072 }
     ensures from { (stride * result < legs) × (get_or sums.now result 0 ≤ tick) }
     ensures till { stride * (result + 1) < legs → tick < get_or sums.now (result + 1) 0 }
@@ -71,9 +71,9 @@ fn sixteenth_at(legs: usize, sums: &[u32; SUMS], tick: u64) -> usize
 
 // P3, P7: the walk along the legs, from leg `first` and the sum before it on. It carries the sum along; a tick that no leg ends after is on the last. The laps are the caller's.
 fn leg_from(s: &[u8], legs: usize, first: usize, before: u64, tick: u64, laps: u64) -> Runner
-    requires first_lt_legs { (first < legs) × (8 + 2 * legs ≤ length s.now) × (sumBelow (leg s.now) legs ≤ 131072) }
-    requires before_value { (before ≡ sumBelow (leg s.now) first) × (before ≤ tick) }
-    ensures { result ≡ atLap laps (walk (leg s.now) (legs - 1) 0 tick) }
+    requires first_lt_legs { (first < legs) × (8 + 2 * legs ≤ length s.now) × (sum_below (leg s.now) legs ≤ 131072) }
+    requires before_value { (before ≡ sum_below (leg s.now) first) × (before ≤ tick) }
+    ensures { result ≡ at_lap laps (walk (leg s.now) (legs - 1) 0 tick) }
 {
     let mut i = first;
     let mut start = before;
@@ -107,7 +107,7 @@ pub fn spot_at(
 ) -> Runner
     requires read { IsRead s.now kind legs }
     requires ticks_value { (ticks ≡ sumOfLegs s.now) × Carried s.now legs sums.now }
-    ensures { result ≡ spotAt s.now tick }
+    ensures { result ≡ spot_at s.now tick }
 {
     let here = reduced(kind, ticks, tick);
     let laps = laps_in(kind, ticks, tick);
@@ -117,7 +117,7 @@ pub fn spot_at(
 
 // The runner from a tick (A6), on sheets with up to `limit` waypoints. Tests 1 to 8 and 10.
 pub fn runner_at_tick_by(limit: usize, s: &[u8], tick: u64) -> RunnerAnswer
-    ensures { toldRunner result ≡ runnerAtTickBy limit s.now tick }
+    ensures { told_runner result ≡ runner_at_tick_by limit s.now tick }
 {
     let mut sums = [0u32; SUMS];
     let reading = sheet::read_with_sums(limit, s, &mut sums);
@@ -137,7 +137,7 @@ pub fn runner_at_tick_by(limit: usize, s: &[u8], tick: u64) -> RunnerAnswer
 
 // The station's.
 pub fn runner_at_tick(s: &[u8], tick: u64) -> RunnerAnswer
-    ensures { toldRunner result ≡ runnerAtTick s.now tick }
+    ensures { told_runner result ≡ runner_at_tick s.now tick }
 {
     runner_at_tick_by(MOST_POINTS, s, tick)
 }

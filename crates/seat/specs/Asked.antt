@@ -7,6 +7,6 @@ use Rattle.layout.specs.Layout.{short}
 
 pub record Ready (s : List ℕ) (list : List ℤ) (k : EndKind) (n : ℕ) : Type 0 where
   pub accepted : Accepted s
-  pub is-kind : k ≡ kind s
-  pub is-points : n ≡ points s
+  pub is_kind : k ≡ kind s
+  pub is_points : n ≡ points s
   pub room : short s (length list) ≡ false

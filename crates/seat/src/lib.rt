@@ -2,9 +2,9 @@
 ghost use Rattle.std.specs.Prelude.{◌≡◌, cond, ◌<◌, eqb};
 ghost use Rattle.sheet.specs.Answers.{refused};
 ghost use Rattle.runner.specs.Steps.{moved};
-ghost use Rattle.place.specs.Places.{toldPlaced, placeHeld};
+ghost use Rattle.place.specs.Places.{told_placed, place_held};
 ghost use Rattle.seat.specs.Asked.{Ready};
-ghost use Rattle.seat.specs.Serving.{flown, served, nextTurn, toldNext, turnAfter, seatAfter, nobody};
+ghost use Rattle.seat.specs.Serving.{flown, served, next_turn, told_next, turn_after, seat_after, nobody};
 
 use answers::Outcome;
 use ends::EndKind;
@@ -38,7 +38,7 @@ pub struct SeatOutcome {
 
 // A9: the number, and the runner as it came.
 fn kept(refusal: Refusal, next: NextTurn, at: Runner) -> SeatOutcome
-    ensures { (toldPlaced result.answer.placed ≡ refused refusal) × (result.answer.placed.place.at ≡ placeHeld (refused refusal)) × (result.answer.next ≡ next) × (result.at ≡ at) }
+    ensures { (told_placed result.answer.placed ≡ refused refusal) × (result.answer.placed.place.at ≡ place_held (refused refusal)) × (result.answer.next ≡ next) × (result.at ≡ at) }
 {
     let placed = place::refused(refusal);
     SeatOutcome {
@@ -50,7 +50,7 @@ fn kept(refusal: Refusal, next: NextTurn, at: Runner) -> SeatOutcome
 // Q2: the seat after this one, the first after the last.
 fn next_turn(seats: usize, turn: u64) -> u64
     requires { turn < seats }
-    ensures { result ≡ nextTurn seats turn }
+    ensures { result ≡ next_turn seats turn }
 {
     if turn + 1 == seats as u64 {
         return 0;
@@ -68,7 +68,7 @@ fn fly(
     from: Runner,
 ) -> SeatOutcome
     requires { Ready s.now list.now kind points }
-    ensures { (toldPlaced result.answer.placed ≡ flown s.now list.now from) × (result.answer.placed.place.at ≡ placeHeld (flown s.now list.now from)) × (result.answer.next ≡ next) × (result.at ≡ cond (eqb (flown s.now list.now from).number 0) (moved s.now from) from) }
+    ensures { (told_placed result.answer.placed ≡ flown s.now list.now from) × (result.answer.placed.place.at ≡ place_held (flown s.now list.now from)) × (result.answer.next ≡ next) × (result.at ≡ cond (eqb (flown s.now list.now from).number 0) (moved s.now from) from) }
 {
     let legs = ends::leg_count(kind, points);
     if runner::is_adrift(s, kind, legs, from) {
@@ -94,7 +94,7 @@ fn fly(
 
 // A14: the turn `turn` of `seats`, taken by the runner `at`. Tests 1 to 9, 19, 20, then 11, 13, 12.
 pub fn serve(s: &[u8], list: &[i64], seats: usize, turn: u64, at: Runner) -> SeatOutcome
-    ensures { (toldPlaced result.answer.placed ≡ served s.now list.now seats turn at) × (result.answer.placed.place.at ≡ placeHeld (served s.now list.now seats turn at)) × (toldNext result.answer.next ≡ turnAfter s.now list.now seats turn) × (result.at ≡ seatAfter s.now list.now seats turn at) }
+    ensures { (told_placed result.answer.placed ≡ served s.now list.now seats turn at) × (result.answer.placed.place.at ≡ place_held (served s.now list.now seats turn at)) × (told_next result.answer.next ≡ turn_after s.now list.now seats turn) × (result.at ≡ seat_after s.now list.now seats turn at) }
 {
     let reading = sheet::read(s);
     let Reading::Course {
@@ -120,7 +120,7 @@ pub fn serve(s: &[u8], list: &[i64], seats: usize, turn: u64, at: Runner) -> Sea
 
 // A14, where the turn is no seat's: one of 1 to 9, 19 or 20. It is asked of a runner that no seat has.
 pub fn turned_away(s: &[u8], list: &[i64], seats: usize, turn: u64) -> RoundAnswer
-    ensures { (toldPlaced result.placed ≡ served s.now list.now seats turn nobody) × (result.placed.place.at ≡ placeHeld (served s.now list.now seats turn nobody)) × (toldNext result.next ≡ turnAfter s.now list.now seats turn) }
+    ensures { (told_placed result.placed ≡ served s.now list.now seats turn nobody) × (result.placed.place.at ≡ place_held (served s.now list.now seats turn nobody)) × (told_next result.next ≡ turn_after s.now list.now seats turn) }
 {
     let nobody = Runner {
         leg: 0,

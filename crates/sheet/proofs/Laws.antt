@@ -9,37 +9,37 @@ use borrow.Author.Tests.{le-ltb, ltb-false, eqb-true, not-false}
 use lib.Dec.{ltb, eqb}
 use lib.IntN.{nat_abs}
 use lib.ListN.{length}
-use Rattle.ends.specs.Ends.{leastPoints}
+use Rattle.ends.specs.Ends.{least_points}
 use Rattle.ends.specs.declared.EndKind.{EndKind}
 use Rattle.ends.specs.declared.EndKind.TheVariants.{Held}
-use Rattle.integers.proofs.Order.{le-or-lt}
+use Rattle.integers.proofs.Order.{le_or_lt}
 use Rattle.sheet.specs.Answers.{number_of, told}
-use Rattle.sheet.specs.Bytes.{anyBelow}
-use Rattle.sheet.specs.Fields.{kind, points, legs, leg, ticks, waypoint, slope, sheetLength}
-use Rattle.sheet.specs.Reading.{Accepted, legOutside, reachOutside, slopeOutside, slopesOutside, applies, refuseIf, lowest, tested, order, mostPoints, longestSheet, read_by}
+use Rattle.sheet.specs.Bytes.{any_below}
+use Rattle.sheet.specs.Fields.{kind, points, legs, leg, ticks, waypoint, slope, sheet_length}
+use Rattle.sheet.specs.Reading.{Accepted, leg_outside, reach_outside, slope_outside, slopes_outside, applies, refuse_if, lowest, tested, order, most_points, longest_sheet, read_by}
 use Rattle.sheet.specs.Theorems.{ReadOrRefused, ReadAccepted, NeverAtStation, ReadAlike, AcceptedBounds, HeightsKept}
 use Rattle.sheet.specs.declared.Refusal.{Refusal}
 use Rattle.sheet.specs.declared.Refusal.TheVariants.{Torn, Edition, Ends, Points, Size, Leg, Reach, Slope, Shelf, Past, Adrift, Bend, Landed, Page, Start, Shut, Apart, Crowded, Seats, Turn, Grain, Ink, Board}
 use Rattle.sheet.specs.declared.Reading.{Reading}
 use Rattle.sheet.specs.declared.Reading.TheVariants.{Course, Refused}
-use Rattle.sheet.proofs.Below.{or_left, or_right, any_none, sum-at-most, sum-at-least}
-use Rattle.sheet.proofs.ByKind.{least-two, legs-at-most, legs-at-least, held-longest}
+use Rattle.sheet.proofs.Below.{or_left, or_right, any_none, sum_at_most, sum_at_least}
+use Rattle.sheet.proofs.ByKind.{least_two, legs_at_most, legs_at_least, held_longest}
 use Rattle.sheet.proofs.Lowest.{past, passed, stopped}
-use Rattle.sheet.proofs.Numbers.{within-size, reach-size, within-floor, within-ceiling}
-use Rattle.sheet.proofs.Told.{order-injective, order-positive, order_small}
-pub use Rattle.sheet.proofs.Told.{told-injective}
+use Rattle.sheet.proofs.Numbers.{within_size, reach_size, within_floor, within_ceiling}
+use Rattle.sheet.proofs.Told.{order_injective, order_positive, order_small}
+pub use Rattle.sheet.proofs.Told.{told_injective}
 
 -- ---- the limit, which 23 alone asks for
 never : (b : Bool) → (b && not b) ≡ false
 never true = refl
 never false = refl
 
-pub never-at-station : NeverAtStation
-never-at-station s = never (ltb mostPoints (points s))
+pub never_at_station : NeverAtStation
+never_at_station s = never (ltb most_points (points s))
 
 module _ (limit : ℕ) (s : List ℕ) where
   -- where 23 does not apply, every number applies as at the station
-  alike : applies limit s Board ≡ false → (r : Refusal) → applies limit s r ≡ applies mostPoints s r
+  alike : applies limit s Board ≡ false → (r : Refusal) → applies limit s r ≡ applies most_points s r
   alike e Torn = refl
   alike e Edition = refl
   alike e Ends = refl
@@ -62,15 +62,15 @@ module _ (limit : ℕ) (s : List ℕ) where
   alike e Turn = refl
   alike e Grain = refl
   alike e Ink = refl
-  alike e Board = e ∙ sym (never-at-station s)
+  alike e Board = e ∙ sym (never_at_station s)
 
-  lowest-alike : applies limit s Board ≡ false → (rs : List Refusal) → lowest limit s rs ≡ lowest mostPoints s rs
-  lowest-alike e [] = refl
-  lowest-alike e (r ∷ rs) = λ i. refuseIf (alike e r i) r (lowest-alike e rs i)
+  lowest_alike : applies limit s Board ≡ false → (rs : List Refusal) → lowest limit s rs ≡ lowest most_points s rs
+  lowest_alike e [] = refl
+  lowest_alike e (r ∷ rs) = λ i. refuse_if (alike e r i) r (lowest_alike e rs i)
 
 pub read_alike : ReadAlike
 unfolding read_by
-read_alike limit s h = lowest-alike limit s (simp (le-ltb limit (points s) h)) tested
+read_alike limit s h = lowest_alike limit s (simp (le-ltb limit (points s) h)) tested
 
 -- ---- read or refused: down the chain, each number in its turn applies or is passed
 module _ (limit : ℕ) (s : List ℕ) where
@@ -80,8 +80,8 @@ module _ (limit : ℕ) (s : List ℕ) where
 
   pass : (r : Refusal) → Passed (order r) → applies limit s r ≡ false → Passed (suc (order r))
   pass r p e q h =
-      le-or-lt (order r) (order q) (applies limit s q ≡ false)
-      (λ k. ap (applies limit s) (order-injective q r (omega arith)) ∙ e)
+      le_or_lt (order r) (order q) (applies limit s q ≡ false)
+      (λ k. ap (applies limit s) (order_injective q r (omega arith)) ∙ e)
       (λ k. p q k)
 
   -- the answer x is that of an accepted sheet, or the first number's
@@ -101,7 +101,7 @@ module _ (limit : ℕ) (s : List ℕ) where
   answered : Answered (read_by limit s)
   unfolding read_by
   answered =
-      ask Torn (past 1) (λ q h. absurd (omega (arith, order-positive q))) (λ a.
+      ask Torn (past 1) (λ q h. absurd (omega (arith, order_positive q))) (λ a.
       ask Edition (past 2) a (λ b.
       ask Ends (past 3) b (λ c.
       ask Points (past 4) c (λ d.
@@ -115,143 +115,143 @@ module _ (limit : ℕ) (s : List ℕ) where
   kept : applies limit s Board ≡ false → applies limit s Points ≡ false → points s ≤ limit
   kept e f =
       ltb-false limit (points s)
-      (by (ltb limit (points s)) (ltb mostPoints (points s)) e (or_right (ltb (points s) (leastPoints (kind s))) (ltb mostPoints (points s)) f))
+      (by (ltb limit (points s)) (ltb most_points (points s)) e (or_right (ltb (points s) (least_points (kind s))) (ltb most_points (points s)) f))
     where
       by : (a b : Bool) → (a && not b) ≡ false → b ≡ false → a ≡ false
       by true true e f = f
       by true false e f = e
       by false b e f = refl
 
-pub read-or-refused : ReadOrRefused
-read-or-refused limit s =
+pub read_or_refused : ReadOrRefused
+read_or_refused limit s =
     ⊎_elim
     (λ a. let within = a.0 Board (omega arith) in
     inl ((λ r h. sym (alike limit s within r) ∙ a.0 r (omega (arith, order_small (number_of r) h))), a.1, kept limit s within (a.0 Points (omega arith))))
     (λ a. inr (a.0, record { answer = a.1; applying = a.2; lower = a.3 }))
     (answered limit s)
 
-pub read-accepted : ReadAccepted
-read-accepted limit s k n p e =
+pub read_accepted : ReadAccepted
+read_accepted limit s k n p e =
     ⊎_elim
     (λ a. let f = a.1 in (a.0, (cc), (cc), (cc), a.2))
     (λ a. let f = a.1.answer in (absurd (let z : ◌≡◌ {A = ℕ} 0 1 = cc in omega arith)))
-    (read-or-refused limit s)
+    (read_or_refused limit s)
 
 -- what a caller of the reader learns where it got a course
-pub course-read : (limit : ℕ) (s : List ℕ) (r : Reading) (k : EndKind) (n p : ℕ) → told r ≡ told (read_by limit s) → r ≡ Course k n p
+pub course_read : (limit : ℕ) (s : List ℕ) (r : Reading) (k : EndKind) (n p : ℕ) → told r ≡ told (read_by limit s) → r ≡ Course k n p
     → Accepted s × (k ≡ kind s) × (n ≡ points s) × (p ≡ ticks s) × (points s ≤ limit)
-course-read limit s r k n p e f = read-accepted limit s k n p (sym (told-injective r (read_by limit s) e) ∙ f)
+course_read limit s r k n p e f = read_accepted limit s k n p (sym (told_injective r (read_by limit s) e) ∙ f)
 
 -- the other way: what is accepted, and within the limit, is read ..
-pub within-read : (limit : ℕ) (s : List ℕ) → Accepted s → points s ≤ limit → read_by limit s ≡ Course (kind s) (points s) (ticks s)
+pub within_read : (limit : ℕ) (s : List ℕ) → Accepted s → points s ≤ limit → read_by limit s ≡ Course (kind s) (points s) (ticks s)
 unfolding read_by
-within-read limit s a h = read_alike limit s h ∙ sym (
-    passed mostPoints s Slope (past 9) (a Slope (omega arith))
-    ∙ passed mostPoints s Reach (past 8) (a Reach (omega arith))
-    ∙ passed mostPoints s Leg (past 7) (a Leg (omega arith))
-    ∙ passed mostPoints s Size (past 6) (a Size (omega arith))
-    ∙ passed mostPoints s Board (past 5) (never-at-station s)
-    ∙ passed mostPoints s Points (past 4) (a Points (omega arith))
-    ∙ passed mostPoints s Ends (past 3) (a Ends (omega arith))
-    ∙ passed mostPoints s Edition (past 2) (a Edition (omega arith))
-    ∙ passed mostPoints s Torn (past 1) (a Torn (omega arith))
+within_read limit s a h = read_alike limit s h ∙ sym (
+    passed most_points s Slope (past 9) (a Slope (omega arith))
+    ∙ passed most_points s Reach (past 8) (a Reach (omega arith))
+    ∙ passed most_points s Leg (past 7) (a Leg (omega arith))
+    ∙ passed most_points s Size (past 6) (a Size (omega arith))
+    ∙ passed most_points s Board (past 5) (never_at_station s)
+    ∙ passed most_points s Points (past 4) (a Points (omega arith))
+    ∙ passed most_points s Ends (past 3) (a Ends (omega arith))
+    ∙ passed most_points s Edition (past 2) (a Edition (omega arith))
+    ∙ passed most_points s Torn (past 1) (a Torn (omega arith))
     )
 
 -- what passes the eight tests is accepted; reading asks no other number
 pub record Passing (s : List ℕ) : Type 0 where
-  pub torn : applies mostPoints s Torn ≡ false
-  pub edition : applies mostPoints s Edition ≡ false
-  pub ends : applies mostPoints s Ends ≡ false
-  pub points : applies mostPoints s Points ≡ false
-  pub size : applies mostPoints s Size ≡ false
-  pub leg : applies mostPoints s Leg ≡ false
-  pub reach : applies mostPoints s Reach ≡ false
-  pub slope : applies mostPoints s Slope ≡ false
+  pub torn : applies most_points s Torn ≡ false
+  pub edition : applies most_points s Edition ≡ false
+  pub ends : applies most_points s Ends ≡ false
+  pub points : applies most_points s Points ≡ false
+  pub size : applies most_points s Size ≡ false
+  pub leg : applies most_points s Leg ≡ false
+  pub reach : applies most_points s Reach ≡ false
+  pub slope : applies most_points s Slope ≡ false
 
-pub passing-accepted : (s : List ℕ) → Passing s → Accepted s
-passing-accepted s p Torn h = p.torn
-passing-accepted s p Edition h = p.edition
-passing-accepted s p Ends h = p.ends
-passing-accepted s p Points h = p.points
-passing-accepted s p Size h = p.size
-passing-accepted s p Leg h = p.leg
-passing-accepted s p Reach h = p.reach
-passing-accepted s p Slope h = p.slope
-passing-accepted s p Shelf h = refl
-passing-accepted s p Past h = refl
-passing-accepted s p Adrift h = refl
-passing-accepted s p Bend h = refl
-passing-accepted s p Landed h = refl
-passing-accepted s p Page h = refl
-passing-accepted s p Start h = refl
-passing-accepted s p Shut h = refl
-passing-accepted s p Apart h = refl
-passing-accepted s p Crowded h = refl
-passing-accepted s p Seats h = refl
-passing-accepted s p Turn h = refl
-passing-accepted s p Grain h = refl
-passing-accepted s p Ink h = refl
-passing-accepted s p Board h = never-at-station s
+pub passing_accepted : (s : List ℕ) → Passing s → Accepted s
+passing_accepted s p Torn h = p.torn
+passing_accepted s p Edition h = p.edition
+passing_accepted s p Ends h = p.ends
+passing_accepted s p Points h = p.points
+passing_accepted s p Size h = p.size
+passing_accepted s p Leg h = p.leg
+passing_accepted s p Reach h = p.reach
+passing_accepted s p Slope h = p.slope
+passing_accepted s p Shelf h = refl
+passing_accepted s p Past h = refl
+passing_accepted s p Adrift h = refl
+passing_accepted s p Bend h = refl
+passing_accepted s p Landed h = refl
+passing_accepted s p Page h = refl
+passing_accepted s p Start h = refl
+passing_accepted s p Shut h = refl
+passing_accepted s p Apart h = refl
+passing_accepted s p Crowded h = refl
+passing_accepted s p Seats h = refl
+passing_accepted s p Turn h = refl
+passing_accepted s p Grain h = refl
+passing_accepted s p Ink h = refl
+passing_accepted s p Board h = never_at_station s
 
 -- ---- the bounds: each is what the test of its number leaves
 module _ (s : List ℕ) (a : Accepted s) where
-  enough : leastPoints (kind s) ≤ points s
-  enough = ltb-false (points s) (leastPoints (kind s)) (or_left (ltb (points s) (leastPoints (kind s))) (ltb mostPoints (points s)) (a Points (omega arith)))
+  enough : least_points (kind s) ≤ points s
+  enough = ltb-false (points s) (least_points (kind s)) (or_left (ltb (points s) (least_points (kind s))) (ltb most_points (points s)) (a Points (omega arith)))
 
-  few : points s ≤ mostPoints
-  few = ltb-false mostPoints (points s) (or_right (ltb (points s) (leastPoints (kind s))) (ltb mostPoints (points s)) (a Points (omega arith)))
+  few : points s ≤ most_points
+  few = ltb-false most_points (points s) (or_right (ltb (points s) (least_points (kind s))) (ltb most_points (points s)) (a Points (omega arith)))
 
-  size : length s ≡ sheetLength (kind s) (points s)
-  size = let formula = sheetLength (kind s) (points s) in eqb-true (length s) formula (not-false (eqb (length s) formula) (a Size (omega arith)))
+  size : length s ≡ sheet_length (kind s) (points s)
+  size = let formula = sheet_length (kind s) (points s) in eqb-true (length s) formula (not-false (eqb (length s) formula) (a Size (omega arith)))
 
-  leg-within : (i : ℕ) → i < legs s → legOutside (leg s i) ≡ false
-  leg-within = any_none (λ i. legOutside (leg s i)) (legs s) (a Leg (omega arith))
+  leg_within : (i : ℕ) → i < legs s → leg_outside (leg s i) ≡ false
+  leg_within = any_none (λ i. leg_outside (leg s i)) (legs s) (a Leg (omega arith))
 
-  leg-low : (i : ℕ) → i < legs s → 1 ≤ leg s i
-  leg-low i h = ltb-false (leg s i) 1 (or_left (ltb (leg s i) 1) (ltb 256 (leg s i)) (leg-within i h))
+  leg_low : (i : ℕ) → i < legs s → 1 ≤ leg s i
+  leg_low i h = ltb-false (leg s i) 1 (or_left (ltb (leg s i) 1) (ltb 256 (leg s i)) (leg_within i h))
 
-  leg-high : (i : ℕ) → i < legs s → leg s i ≤ 256
-  leg-high i h = ltb-false 256 (leg s i) (or_right (ltb (leg s i) 1) (ltb 256 (leg s i)) (leg-within i h))
+  leg_high : (i : ℕ) → i < legs s → leg s i ≤ 256
+  leg_high i h = ltb-false 256 (leg s i) (or_right (ltb (leg s i) 1) (ltb 256 (leg s i)) (leg_within i h))
 
-  pub reach-within : (axis i : ℕ) → axis < 3 → i < points s → reachOutside axis (waypoint s axis i) ≡ false
-  reach-within axis i h k =
-      let none = any_none (λ j. anyBelow (λ x. reachOutside x (waypoint s x j)) 3) (points s) (a Reach (omega arith)) i k in
-      any_none (λ x. reachOutside x (waypoint s x i)) 3 none axis h
+  pub reach_within : (axis i : ℕ) → axis < 3 → i < points s → reach_outside axis (waypoint s axis i) ≡ false
+  reach_within axis i h k =
+      let none = any_none (λ j. any_below (λ x. reach_outside x (waypoint s x j)) 3) (points s) (a Reach (omega arith)) i k in
+      any_none (λ x. reach_outside x (waypoint s x i)) 3 none axis h
 
-  slope-within : (axis side : ℕ) → axis < 3 → side < 2 → kind s ≡ Held → nat_abs (slope s axis side) ≤ 5_000
-  slope-within axis side h k e =
-      let held = sym (ap (λ (j : EndKind). slopesOutside j s) e) ∙ a Slope (omega arith) in
-      let none = any_none (λ y. anyBelow (λ x. slopeOutside (slope s x y)) 3) 2 held side k in
-      within-size 5_000 (slope s axis side) (any_none (λ x. slopeOutside (slope s x side)) 3 none axis h)
+  slope_within : (axis side : ℕ) → axis < 3 → side < 2 → kind s ≡ Held → nat_abs (slope s axis side) ≤ 5_000
+  slope_within axis side h k e =
+      let held = sym (ap (λ (j : EndKind). slopes_outside j s) e) ∙ a Slope (omega arith) in
+      let none = any_none (λ y. any_below (λ x. slope_outside (slope s x y)) 3) 2 held side k in
+      within_size 5_000 (slope s axis side) (any_none (λ x. slope_outside (slope s x side)) 3 none axis h)
 
-  longest : length s ≤ longestSheet
-  longest = omega (arith, few, size, held-longest (kind s) (points s) (omega (arith, enough, least-two (kind s))))
+  longest : length s ≤ longest_sheet
+  longest = omega (arith, few, size, held_longest (kind s) (points s) (omega (arith, enough, least_two (kind s))))
 
-  some-ticks : 1 ≤ ticks s
-  some-ticks = omega (arith, enough, least-two (kind s), legs-at-least (kind s) (points s), sum-at-least (leg s) 1 (legs s) leg-low)
+  some_ticks : 1 ≤ ticks s
+  some_ticks = omega (arith, enough, least_two (kind s), legs_at_least (kind s) (points s), sum_at_least (leg s) 1 (legs s) leg_low)
 
-  few-ticks : ticks s ≤ 131_072
-  few-ticks = omega (arith, few, legs-at-most (kind s) (points s), sum-at-most (leg s) 256 (legs s) leg-high)
+  few_ticks : ticks s ≤ 131_072
+  few_ticks = omega (arith, few, legs_at_most (kind s) (points s), sum_at_most (leg s) 256 (legs s) leg_high)
 
-pub accepted-bounds : AcceptedBounds
-accepted-bounds s a = record {
+pub accepted_bounds : AcceptedBounds
+accepted_bounds s a = record {
   enough = enough s a;
   few = few s a;
   size = size s a;
-  leg-low = leg-low s a;
-  leg-high = leg-high s a;
-  reach = λ axis i h k. reach-size axis (waypoint s axis i) (reach-within s a axis i h k);
-  slope = slope-within s a;
+  leg_low = leg_low s a;
+  leg_high = leg_high s a;
+  reach = λ axis i h k. reach_size axis (waypoint s axis i) (reach_within s a axis i h k);
+  slope = slope_within s a;
   longest = longest s a;
-  some-ticks = some-ticks s a;
-  few-ticks = few-ticks s a;
+  some_ticks = some_ticks s a;
+  few_ticks = few_ticks s a;
 }
 
 -- .. at the station without a word about the limit
-pub accepted-read : (s : List ℕ) → Accepted s → read_by mostPoints s ≡ Course (kind s) (points s) (ticks s)
-accepted-read s a = within-read mostPoints s a (few s a)
+pub accepted_read : (s : List ℕ) → Accepted s → read_by most_points s ≡ Course (kind s) (points s) (ticks s)
+accepted_read s a = within_read most_points s a (few s a)
 
-pub heights-kept : HeightsKept
-heights-kept s a i k =
-    let within = reach-within s a 2 i (omega arith) k in
-    (within-floor 50_000 120_000 (waypoint s 2 i) within, within-ceiling 50_000 120_000 (waypoint s 2 i) within)
+pub heights_kept : HeightsKept
+heights_kept s a i k =
+    let within = reach_within s a 2 i (omega arith) k in
+    (within_floor 50_000 120_000 (waypoint s 2 i) within, within_ceiling 50_000 120_000 (waypoint s 2 i) within)

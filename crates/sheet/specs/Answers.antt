@@ -1,6 +1,6 @@
 -- Number and values of each case of an answer (F8), which every promise about an answer goes through.
 use Rattle.std.specs.Prelude.{List, [], ◌∷◌, ℕ, ℤ, pos}
-use Rattle.ends.specs.Ends.{kindNumber}
+use Rattle.ends.specs.Ends.{kind_number}
 use Rattle.sheet.specs.declared.Refusal.{Refusal}
 use Rattle.sheet.specs.declared.Refusal.TheVariants.{Torn, Edition, Ends, Points, Size, Leg, Reach, Slope, Shelf, Past, Adrift, Bend, Landed, Page, Start, Shut, Apart, Crowded, Seats, Turn, Grain, Ink, Board}
 use Rattle.sheet.specs.declared.Reading.{Reading}
@@ -43,5 +43,5 @@ refused r = record { number = number_of r; values = [] }
 
 -- A2: kind, N and P
 abbrev pub told : Reading → Told
-told (Course k n p) = record { number = 0; values = pos (kindNumber k) ∷ pos n ∷ pos p ∷ [] }
+told (Course k n p) = record { number = 0; values = pos (kind_number k) ∷ pos n ∷ pos p ∷ [] }
 told (Refused r) = refused r

@@ -1,10 +1,10 @@
 -- What is proved of sheets: an accepted one has the bounds that all later arithmetic rests on, and a sheet is accepted or has exactly one refusal.
 use Rattle.std.specs.Prelude.{◌≡◌, true, false, List, ◌⊎◌, ℕ, ◌≤◌, ◌<◌, pos, neg_ℤ, nat_abs, length, ◌≤ℤ◌}
-use Rattle.ends.specs.Ends.{leastPoints}
+use Rattle.ends.specs.Ends.{least_points}
 use Rattle.ends.specs.declared.EndKind.{EndKind}
 use Rattle.ends.specs.declared.EndKind.TheVariants.{Held}
-use Rattle.sheet.specs.Fields.{kind, points, legs, leg, ticks, waypoint, slope, sheetLength}
-use Rattle.sheet.specs.Reading.{Accepted, applies, order, mostPoints, longestSheet, read_by}
+use Rattle.sheet.specs.Fields.{kind, points, legs, leg, ticks, waypoint, slope, sheet_length}
+use Rattle.sheet.specs.Reading.{Accepted, applies, order, most_points, longest_sheet, read_by}
 use Rattle.sheet.specs.declared.Refusal.{Refusal}
 use Rattle.sheet.specs.declared.Refusal.TheVariants.{Board}
 use Rattle.sheet.specs.declared.Reading.TheVariants.{Course, Refused}
@@ -25,24 +25,24 @@ ReadAccepted = (limit : ℕ) (s : List ℕ) (k : EndKind) (n p : ℕ) → read_b
 
 -- N23: at the station it applies to no sheet
 abbrev pub NeverAtStation : Type 0
-NeverAtStation = (s : List ℕ) → applies mostPoints s Board ≡ false
+NeverAtStation = (s : List ℕ) → applies most_points s Board ≡ false
 
 -- B3, of reading: within the limit a reader answers as the station does
 abbrev pub ReadAlike : Type 0
-ReadAlike = (limit : ℕ) (s : List ℕ) → points s ≤ limit → read_by limit s ≡ read_by mostPoints s
+ReadAlike = (limit : ℕ) (s : List ℕ) → points s ≤ limit → read_by limit s ≡ read_by most_points s
 
 -- the bounds of an accepted sheet (N4 to N8), and those of P and of the length that follow. Of reach it is the wide span, which serves all axes.
 pub record Bounds (s : List ℕ) : Type 0 where
-  pub enough : leastPoints (kind s) ≤ points s
-  pub few : points s ≤ mostPoints
-  pub size : length s ≡ sheetLength (kind s) (points s)
-  pub leg-low : (i : ℕ) → i < legs s → 1 ≤ leg s i
-  pub leg-high : (i : ℕ) → i < legs s → leg s i ≤ 256
+  pub enough : least_points (kind s) ≤ points s
+  pub few : points s ≤ most_points
+  pub size : length s ≡ sheet_length (kind s) (points s)
+  pub leg_low : (i : ℕ) → i < legs s → 1 ≤ leg s i
+  pub leg_high : (i : ℕ) → i < legs s → leg s i ≤ 256
   pub reach : (axis i : ℕ) → axis < 3 → i < points s → nat_abs (waypoint s axis i) ≤ 1_000_000
   pub slope : (axis side : ℕ) → axis < 3 → side < 2 → kind s ≡ Held → nat_abs (slope s axis side) ≤ 5_000
-  pub longest : length s ≤ longestSheet
-  pub some-ticks : 1 ≤ ticks s
-  pub few-ticks : ticks s ≤ 131_072
+  pub longest : length s ≤ longest_sheet
+  pub some_ticks : 1 ≤ ticks s
+  pub few_ticks : ticks s ≤ 131_072
 
 abbrev pub AcceptedBounds : Type 0
 AcceptedBounds = (s : List ℕ) → Accepted s → Bounds s

@@ -1,9 +1,9 @@
 // The reader's walk along the legs (N6, P): it carries their sum, and keeps it at every sixteenth leg for the search of a tick's leg (P7).
 ghost use Rattle.std.specs.Prelude.{◌≡◌, ◌+◌, ◌*◌, ◌≤◌, ◌<◌, length};
-ghost use Rattle.sheet.specs.Bytes.{anyBelow, sumBelow};
+ghost use Rattle.sheet.specs.Bytes.{any_below, sum_below};
 ghost use Rattle.sheet.specs.Fields.{leg};
-ghost use Rattle.sheet.specs.Reading.{legOutside, mostPoints};
-ghost use Rattle.sheet.specs.Carried.{Carried, mostSums};
+ghost use Rattle.sheet.specs.Reading.{leg_outside, most_points};
+ghost use Rattle.sheet.specs.Carried.{Carried, most_sums};
 
 use crate::bytes::narrow;
 use crate::limits::leg_outside;
@@ -20,7 +20,7 @@ pub struct Legs {
 // register.)
 fn add_some(s: &[u8], from: usize, count: usize) -> Legs
     requires { (8 + 2 * (from + count) ≤ length s.now) × (count < 65536) }
-    ensures legs { (result.ticks ≡ sumBelow (λ i. leg s.now (from + i)) count) × (result.outside ≡ anyBelow (λ i. legOutside (leg s.now (from + i))) count) }
+    ensures legs { (result.ticks ≡ sum_below (λ i. leg s.now (from + i)) count) × (result.outside ≡ any_below (λ i. leg_outside (leg s.now (from + i))) count) }
     ensures fits { result.ticks ≤ 65535 * count }
 {
     let mut ticks = 0u32;
@@ -39,8 +39,8 @@ fn add_some(s: &[u8], from: usize, count: usize) -> Legs
 // N6, and P, of all legs. (By sixteens: of a count that it knows the compiler takes several legs at a time. Of `% STRIDE` it knows that few are left, and makes
 // no such code for them.)
 pub fn add_legs(s: &[u8], count: usize, sums: &mut [u32; SUMS]) -> Legs
-    requires { (8 + 2 * count ≤ length s.now) × (count ≤ mostPoints) × (length sums.old ≡ mostSums) }
-    ensures legs { (result.ticks ≡ sumBelow (leg s.now) count) × (result.outside ≡ anyBelow (λ i. legOutside (leg s.now i)) count) }
+    requires { (8 + 2 * count ≤ length s.now) × (count ≤ most_points) × (length sums.old ≡ most_sums) }
+    ensures legs { (result.ticks ≡ sum_below (leg s.now) count) × (result.outside ≡ any_below (λ i. leg_outside (leg s.now i)) count) }
     ensures sums { Carried s.now count sums.new }
 {
     let mut ticks = 0u32;

@@ -1,10 +1,10 @@
 // The reader (A2, A16), in one walk over the sheet. Its largest N is a number that is handed over: 512 at the station, less on the board.
 ghost use Rattle.std.specs.Prelude.{◌≡◌, cond, ◌||◌, [], ◌∷◌, ◌+◌, ◌*◌, ◌≤◌, ◌<◌, ltb, nat_abs, length};
 ghost use Rattle.sheet.specs.Answers.{told};
-ghost use Rattle.sheet.specs.Bytes.{be16, be32, signed32, anyBelow};
-ghost use Rattle.sheet.specs.Fields.{kindField, kind_of, legs, waypointsFrom, waypoint, slopesFrom, slopeBytes, sheetLength};
-ghost use Rattle.sheet.specs.Reading.{reachOutside, slopeOutside, slopesOutside, mostPoints, longestSheet, lowest, read_by, readSheet};
-ghost use Rattle.sheet.specs.Carried.{Carried, CarriedBy, mostSums};
+ghost use Rattle.sheet.specs.Bytes.{be16, be32, signed32, any_below};
+ghost use Rattle.sheet.specs.Fields.{kind_field, kind_of, legs, waypoints_from, waypoint, slopes_from, slope_bytes, sheet_length};
+ghost use Rattle.sheet.specs.Reading.{reach_outside, slope_outside, slopes_outside, most_points, longest_sheet, lowest, read_by, read_sheet};
+ghost use Rattle.sheet.specs.Carried.{Carried, CarriedBy, most_sums};
 ghost use Rattle.sheet.specs.declared.Refusal.TheVariants.{Edition, Ends, Points, Size, Leg, Reach, Slope, Board};
 
 use crate::bytes::{read_signed, read16, read32};
@@ -27,7 +27,7 @@ pub fn kind_of(byte: u8) -> EndKind
 // S9: the bytes of a sheet. For lists too.
 pub fn sheet_length(kind: EndKind, points: usize) -> usize
     requires { (1 ≤ points) × (points < 65536) }
-    ensures { result ≡ sheetLength kind points }
+    ensures { result ≡ sheet_length kind points }
 {
     let plain = 8 + 2 * ends::leg_count(kind, points) + 12 * points;
     match kind {
@@ -39,7 +39,7 @@ pub fn sheet_length(kind: EndKind, points: usize) -> usize
 
 // Holds the constant against the definition; nothing calls it.
 fn longest_sheet() -> usize
-    ensures { result ≡ longestSheet }
+    ensures { result ≡ longest_sheet }
 {
     LONGEST_SHEET
 }
@@ -68,7 +68,7 @@ fn read_triple(s: &[u8], at: usize) -> Triple
 // N7, of the waypoint whose numbers start at `at`. (By returns: with `|` the reader takes a sixth longer.)
 fn waypoint_outside(s: &[u8], at: usize) -> bool
     requires { at + 12 ≤ length s.now }
-    ensures { result ≡ anyBelow (λ axis. reachOutside axis (signed32 (be32 s.now (at + 4 * axis)))) 3 }
+    ensures { result ≡ any_below (λ axis. reach_outside axis (signed32 (be32 s.now (at + 4 * axis)))) 3 }
 {
     if bits_outside(0, read32(s, at)) {
         return true;
@@ -81,8 +81,8 @@ fn waypoint_outside(s: &[u8], at: usize) -> bool
 
 // N7, of the first `count` waypoints.
 fn waypoints_outside(s: &[u8], from: usize, count: usize) -> bool
-    requires { (from ≡ waypointsFrom s.now) × (from + 12 * count ≤ length s.now) }
-    ensures { result ≡ anyBelow (λ i. anyBelow (λ axis. reachOutside axis (waypoint s.now axis i)) 3) count }
+    requires { (from ≡ waypoints_from s.now) × (from + 12 * count ≤ length s.now) }
+    ensures { result ≡ any_below (λ i. any_below (λ axis. reach_outside axis (waypoint s.now axis i)) 3) count }
 {
     let mut i = 0;
     while i < count {
@@ -97,7 +97,7 @@ fn waypoints_outside(s: &[u8], from: usize, count: usize) -> bool
 // N8, of the side whose slopes start at `at`.
 fn side_outside(s: &[u8], at: usize) -> bool
     requires { at + 12 ≤ length s.now }
-    ensures { result ≡ anyBelow (λ axis. slopeOutside (signed32 (be32 s.now (at + 4 * axis)))) 3 }
+    ensures { result ≡ any_below (λ axis. slope_outside (signed32 (be32 s.now (at + 4 * axis)))) 3 }
 {
     let x = read_triple(s, at);
     slope_outside(x.north) | slope_outside(x.east) | slope_outside(x.up)
@@ -105,8 +105,8 @@ fn side_outside(s: &[u8], at: usize) -> bool
 
 // N8: slopes are a held course's alone (S8).
 fn slopes_outside(s: &[u8], kind: EndKind, from: usize) -> bool
-    requires { (from ≡ slopesFrom s.now) × (from + slopeBytes kind ≤ length s.now) }
-    ensures { result ≡ slopesOutside kind s.now }
+    requires { (from ≡ slopes_from s.now) × (from + slope_bytes kind ≤ length s.now) }
+    ensures { result ≡ slopes_outside kind s.now }
 {
     match kind {
         EndKind::Free => false,
@@ -117,14 +117,14 @@ fn slopes_outside(s: &[u8], kind: EndKind, from: usize) -> bool
 
 // N4 and N23: more waypoints than any sheet may have, or than the reader has room for.
 fn is_over(limit: usize, n: usize) -> bool
-    ensures { result ≡ (ltb mostPoints n || ltb limit n) }
+    ensures { result ≡ (ltb most_points n || ltb limit n) }
 {
     (MOST_POINTS < n) | (limit < n)
 }
 
 // Which of the two. (Behind one test: as two branches in `read_fields` a small sheet takes twice as long.)
 fn over(n: usize) -> Refusal
-    ensures { result ≡ cond (ltb mostPoints n) Points Board }
+    ensures { result ≡ cond (ltb most_points n) Points Board }
 {
     if MOST_POINTS < n {
         return Refusal::Points;
@@ -134,8 +134,8 @@ fn over(n: usize) -> Refusal
 
 // N6 to N8, of a sheet to which no lower number applies: the first that does, or the course (A1).
 fn read_body(s: &[u8], kind: EndKind, n: usize, sums: &mut [u32; SUMS]) -> Reading
-    requires { (kind ≡ kind_of (kindField s.now)) × (n ≡ be16 s.now 6) × (2 ≤ n) × (n ≤ mostPoints) × (length s.now ≡ sheetLength kind n) × (length sums.old ≡ mostSums) }
-    ensures answer { result ≡ lowest mostPoints s.now (Leg ∷ Reach ∷ Slope ∷ []) }
+    requires { (kind ≡ kind_of (kind_field s.now)) × (n ≡ be16 s.now 6) × (2 ≤ n) × (n ≤ most_points) × (length s.now ≡ sheet_length kind n) × (length sums.old ≡ most_sums) }
+    ensures answer { result ≡ lowest most_points s.now (Leg ∷ Reach ∷ Slope ∷ []) }
     ensures sums { Carried s.now (legs s.now) sums.new }
 {
     let count = ends::leg_count(kind, n);
@@ -160,7 +160,7 @@ fn read_body(s: &[u8], kind: EndKind, n: usize, sums: &mut [u32; SUMS]) -> Readi
 // N2 to N5 and N23, of a sheet that is not torn, then the body. (Apart from N1: behind seven tests in one function the compiler takes the body for unlikely, and the
 // answer goes through memory twice, which is half of a small sheet's time.)
 fn read_fields(limit: usize, s: &[u8], sums: &mut [u32; SUMS]) -> Reading
-    requires { (8 ≤ length s.now) × (length sums.old ≡ mostSums) }
+    requires { (8 ≤ length s.now) × (length sums.old ≡ most_sums) }
     ensures answer { result ≡ lowest limit s.now (Edition ∷ Ends ∷ Points ∷ Board ∷ Size ∷ Leg ∷ Reach ∷ Slope ∷ []) }
     ensures sums { CarriedBy result s.now sums.new }
 {
@@ -187,7 +187,7 @@ fn read_fields(limit: usize, s: &[u8], sums: &mut [u32; SUMS]) -> Reading
 
 // N1, then the fields: whatever the bytes, they are read or refused (D1). The sums of a course's legs stay behind (P7).
 pub fn read_with_sums(limit: usize, s: &[u8], sums: &mut [u32; SUMS]) -> Reading
-    requires { length sums.old ≡ mostSums }
+    requires { length sums.old ≡ most_sums }
     ensures answer { told result ≡ told (read_by limit s.now) }
     ensures sums { CarriedBy result s.now sums.new }
 {
@@ -211,7 +211,7 @@ pub fn read_by(limit: usize, s: &[u8]) -> Reading
 
 // The station's reading.
 pub fn read(s: &[u8]) -> Reading
-    ensures { told result ≡ told (readSheet s.now) }
+    ensures { told result ≡ told (read_sheet s.now) }
 {
     read_by(MOST_POINTS, s)
 }

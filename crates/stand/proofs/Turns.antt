@@ -25,8 +25,8 @@ module _ {input : List ℕ} {list : List ℤ} {out : List ℕ} {bytes next end s
   abbrev later : List ℕ
   later = lines_from input list next (end - next)
 
-  piece-length : length (take bytes out) ≡ bytes
-  piece-length = length-take-le bytes out g.piece.room
+  piece_length : length (take bytes out) ≡ bytes
+  piece_length = length-take-le bytes out g.piece.room
 
   pub part : PartAt (output input) sent (take bytes out)
   part = record {
@@ -40,22 +40,22 @@ module _ {input : List ℕ} {list : List ℤ} {out : List ℕ} {bytes next end s
     within true = omega (arith, g.inside)
     within false = part.inside
 
-    pub handed-inside : handed ≤ length (output input)
-    handed-inside = omega (arith, e, within failed)
+    pub handed_inside : handed ≤ length (output input)
+    handed_inside = omega (arith, e, within failed)
 
-    handed-all : failed ≡ false → handed ≡ sent + bytes
-    handed-all w = e ∙ ap (λ b. sent + cond b 0 (length (take bytes out))) w ∙ ap (λ k. sent + k) piece-length
+    handed_all : failed ≡ false → handed ≡ sent + bytes
+    handed_all w = e ∙ ap (λ b. sent + cond b 0 (length (take bytes out))) w ∙ ap (λ k. sent + k) piece_length
 
     pub nearer : failed ≡ false → 0 < bytes → length (output input) - handed < length (output input) - sent
-    nearer w some = omega (arith, handed-all w, handed-inside)
+    nearer w some = omega (arith, handed_all w, handed_inside)
 
     -- the next piece continues where this one ended
     pub going_on : failed ≡ false → (out' : List ℕ) (bytes' next' end' : ℕ) → 65536 ≡ length out' → PieceOf input list out' bytes' next' end' later → end' ≡ end
         → (next' ≡ end) ⊎ (length out' < bytes' + 87) → Going input list out' bytes' next' end' handed
-    going_on w out' bytes' next' end' room p same full = let reached : sent + length (take bytes out) ≡ handed = omega (arith, handed-all w, piece-length) in record {
+    going_on w out' bytes' next' end' room p same full = let reached : sent + length (take bytes out) ≡ handed = omega (arith, handed_all w, piece_length) in record {
       shelf = g.shelf;
       buffer = room;
-      inside = handed-inside;
+      inside = handed_inside;
       piece = record {
         room = p.room;
         in_order = p.in_order;
@@ -69,14 +69,14 @@ module _ {input : List ℕ} {list : List ℤ} {out : List ℕ} {bytes next end s
       goes_on = λ none. ⊎_elim (λ h. omega arith) (λ h. absurd (omega arith)) full;
     }
 
-  pub all-handed : bytes ≡ 0 → sent ≡ length (output input)
-  all-handed none =
+  pub all_handed : bytes ≡ 0 → sent ≡ length (output input)
+  all_handed none =
       let done = g.goes_on none in
       omega (
         arith,
         ap length g.piece.text,
         length-append (take bytes out) later,
-        piece-length,
+        piece_length,
         ap length (ap (λ k. lines_from input list k (end - k)) done ∙ lines_none input list end),
         length-drop sent (output input),
         g.inside,

@@ -10,43 +10,43 @@ use Rattle.sheet.specs.Fields.{points}
 use Rattle.sheet.specs.Reading.{read_by}
 use Rattle.sheet.specs.declared.Reading.{Reading}
 use Rattle.sheet.proofs.Laws.{read_alike}
-use Rattle.answers.specs.Answers.{passOn}
-use Rattle.layout.specs.Layout.{allBends, layOutBy, laidOutBy}
-use Rattle.runner.specs.Ticks.{runnerAtTickBy}
-use Rattle.runner.specs.Steps.{moved, steppedBy, onwardBy, repeated}
+use Rattle.answers.specs.Answers.{pass_on}
+use Rattle.layout.specs.Layout.{all_bends, lay_out_by, laid_out_by}
+use Rattle.runner.specs.Ticks.{runner_at_tick_by}
+use Rattle.runner.specs.Steps.{moved, stepped_by, onward_by, repeated}
 use Rattle.runner.specs.declared.Runner.{Runner}
-use Rattle.place.specs.Places.{placeAtTickBy, placeOfRunnerBy}
+use Rattle.place.specs.Places.{place_at_tick_by, place_of_runner_by}
 use Rattle.station.specs.Alike.{Alike, WithinBoth}
 
 module _ (l m : ℕ) (s : List ℕ) (e : read_by l s ≡ read_by m s) where
-  on : (rest : Told) → passOn (read_by l s) rest ≡ passOn (read_by m s) rest
-  on rest = ap (λ (x : Reading). passOn x rest) e
+  on : (rest : Told) → pass_on (read_by l s) rest ≡ pass_on (read_by m s) rest
+  on rest = ap (λ (x : Reading). pass_on x rest) e
 
-  laying : (room : ℕ) → layOutBy l s room ≡ layOutBy m s room
-  unfolding layOutBy
+  laying : (room : ℕ) → lay_out_by l s room ≡ lay_out_by m s room
+  unfolding lay_out_by
   laying room = on _
 
-  step : (r : Runner) → steppedBy l s r ≡ steppedBy m s r
-  unfolding steppedBy
+  step : (r : Runner) → stepped_by l s r ≡ stepped_by m s r
+  unfolding stepped_by
   step r = on _
 
-  runner : (r : Runner) → onwardBy l s r ≡ onwardBy m s r
-  unfolding onwardBy
+  runner : (r : Runner) → onward_by l s r ≡ onward_by m s r
+  unfolding onward_by
   runner r = ap (λ (t : Told). cond (eqb t.number 0) (moved s r) r) (step r)
 
-  steps : (n : ℕ) (r : Runner) → repeated (onwardBy l s) n r ≡ repeated (onwardBy m s) n r
+  steps : (n : ℕ) (r : Runner) → repeated (onward_by l s) n r ≡ repeated (onward_by m s) n r
   unfolding repeated
   steps zero r = refl
-  steps (suc n) r = runner (repeated (onwardBy l s) n r) ∙ ap (onwardBy m s) (steps n r)
+  steps (suc n) r = runner (repeated (onward_by l s) n r) ∙ ap (onward_by m s) (steps n r)
 
   alike : Alike l m s
-  unfolding laidOutBy placeAtTickBy placeOfRunnerBy runnerAtTickBy
+  unfolding laid_out_by place_at_tick_by place_of_runner_by runner_at_tick_by
   alike = record {
     read = e;
     laying = laying;
-    list = λ lent. ap (λ (t : Told). cond (eqb t.number 0) (allBends s ++ drop (3 * points s) lent) lent) (laying (length lent));
-    by-tick = λ list t. on _;
-    by-runner = λ list r. on _;
+    list = λ lent. ap (λ (t : Told). cond (eqb t.number 0) (all_bends s ++ drop (3 * points s) lent) lent) (laying (length lent));
+    by_tick = λ list t. on _;
+    by_runner = λ list r. on _;
     from_tick = λ t. on _;
     step = step;
     runner = runner;

@@ -20,11 +20,11 @@ abbrev sub : ℤ → ℤ → ℤ
 sub a b = read a -ℤ read b
 
 module _ {t m u : ℕ} {x y z : ℤ} (o : OnStroke t m u x y z) where
-  pub limit-size : t * m ≤ 256_000
-  limit-size = mul-le-mul o.fine o.few
+  pub limit_size : t * m ≤ 256_000
+  limit_size = mul-le-mul o.fine o.few
 
   pub limit : Made (pos (t * m)) (pos (t * m)) 256_000
-  limit = given refl limit-size tt
+  limit = given refl limit_size tt
 
   first : Made x x (2 ^ 47)
   first = given refl o.first tt
@@ -45,11 +45,11 @@ module _ {t m u : ℕ} {x y z : ℤ} (o : OnStroke t m u x y z) where
   pub begun : Made (mul (pos m) x) (pos m *ℤ x) (2 ^ 55)
   begun = times ticks first tt
 
-  pub whole-rise : Made (sub z x) (z -ℤ x) (2 ^ 48)
-  whole-rise = minus last first tt
+  pub whole_rise : Made (sub z x) (z -ℤ x) (2 ^ 48)
+  whole_rise = minus last first tt
 
   pub risen : Made (mul (pos u) (sub z x)) (pos u *ℤ (z -ℤ x)) (2 ^ 56)
-  risen = times past whole-rise tt
+  risen = times past whole_rise tt
 
   pub line : Made (add (mul (pos m) x) (mul (pos u) (sub z x))) (pos m *ℤ x +ℤ pos u *ℤ (z -ℤ x)) (2 ^ 57)
   line =
@@ -69,7 +69,7 @@ module _ {t m u : ℕ} {x y z : ℤ} (o : OnStroke t m u x y z) where
       given (n.same ∙ e) (rw (← e) (omega (arith, n.size))) tt
 
   -- r is the size of the number made
-  pub off-is : {r : ℤ} → r ≡ pos (nat_abs (read made)) → lt_z (read (pos (t * m))) (read r) ≡ off t m u x y z
-  off-is {r} e =
+  pub off_is : {r : ℤ} → r ≡ pos (nat_abs (read made)) → lt_z (read (pos (t * m))) (read r) ≡ off t m u x y z
+  off_is {r} e =
       let sized : Made r (pos (nat_abs (pos m *ℤ (y -ℤ x) -ℤ pos u *ℤ (z -ℤ x)))) (2 ^ 58) = given (e ∙ ap (λ z. pos (nat_abs z)) (read_back distance)) distance.size tt in
       (λ i. lt_z (read_back limit i) (read_back sized i))

@@ -12,8 +12,8 @@ use lib.Seq.{sets}
 use Rattle.stretch.specs.Asked.{Stretch}
 use Rattle.stretch.specs.Stretches.{kept}
 
-pub stretch-within : {p : List ℤ} {t a m : ℕ} → Stretch p t a m → (b k : ℕ) → 1 ≤ k → b + k ≤ a + m → Stretch p t b k
-stretch-within s b k some h = record {
+pub stretch_within : {p : List ℤ} {t a m : ℕ} → Stretch p t a m → (b k : ℕ) → 1 ≤ k → b + k ≤ a + m → Stretch p t b k
+stretch_within s b k some h = record {
   table = s.table;
   fine = s.fine;
   some = some;
@@ -22,12 +22,12 @@ stretch-within s b k some h = record {
 }
 
 -- H2: one tick is kept
-pub short-kept : (t : ℕ) (x : ℕ → ℕ → ℤ) (a m : ℕ) → m < 2 → kept t x a m ≡ true
-short-kept t x a m h = rw (lt-ltb m 2 h)
+pub short_kept : (t : ℕ) (x : ℕ → ℕ → ℤ) (a m : ℕ) → m < 2 → kept t x a m ≡ true
+short_kept t x a m h = rw (lt-ltb m 2 h)
 
 -- two runs of stores, one after the other
-pub sets-append : {A : Type 0} (xs ys l : List A) (n : ℕ) → sets (sets l n xs) (n + length xs) ys ≡ sets l n (xs ++ ys)
-sets-append [] ys l n = ap (λ k. sets l k ys) (add-zero n)
-sets-append (x ∷ xs) ys l n =
+pub sets_append : {A : Type 0} (xs ys l : List A) (n : ℕ) → sets (sets l n xs) (n + length xs) ys ≡ sets l n (xs ++ ys)
+sets_append [] ys l n = ap (λ k. sets l k ys) (add-zero n)
+sets_append (x ∷ xs) ys l n =
     let e : n + suc (length xs) ≡ suc n + length xs = omega arith in
-    ap (λ k. sets (sets (set l n x) (suc n) xs) k ys) e ∙ sets-append xs ys (set l n x) (suc n)
+    ap (λ k. sets (sets (set l n x) (suc n) xs) k ys) e ∙ sets_append xs ys (set l n x) (suc n)

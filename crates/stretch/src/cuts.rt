@@ -1,7 +1,7 @@
 // The stroke ends of a stretch, by recursion over it (F9, H3): each call has fewer ticks than its caller.
 ghost use Rattle.std.specs.Prelude.{◌≡◌, ◌+◌, ◌<◌, length, set};
 ghost use Rattle.std.proofs.lemmas.List.Edits.{sets};
-ghost use Rattle.stretch.specs.Stretches.{endsOf};
+ghost use Rattle.stretch.specs.Stretches.{ends_of};
 ghost use Rattle.stretch.specs.Asked.{Stretch, Counted, tabled};
 
 use crate::test::is_kept;
@@ -29,8 +29,8 @@ pub fn cut(
     n: usize,
 ) -> usize
     requires { Stretch places.now tolerance start ticks × Counted from start ticks n }
-    ensures count { result ≡ n + length (endsOf tolerance (tabled places.now) from start ticks) }
-    ensures ends { ends.new ≡ sets ends.old n (endsOf tolerance (tabled places.now) from start ticks) }
+    ensures count { result ≡ n + length (ends_of tolerance (tabled places.now) from start ticks) }
+    ensures ends { ends.new ≡ sets ends.old n (ends_of tolerance (tabled places.now) from start ticks) }
 {
     if is_kept(places, tolerance, start, ticks) {
         return put_end(ends, n, from + (start + ticks));

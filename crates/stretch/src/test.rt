@@ -1,7 +1,7 @@
 // Whether a stretch is kept as one stroke (H2).
 ghost use Rattle.std.specs.Prelude.{◌≡◌, ◌+◌, ◌-◌, ◌^◌, ◌≤◌, ◌<◌, pos, nat_abs};
-ghost use Rattle.sheet.specs.Bytes.{anyBelow};
-ghost use Rattle.stretch.specs.Stretches.{off, off_at, straysOn, strays, kept};
+ghost use Rattle.sheet.specs.Bytes.{any_below};
+ghost use Rattle.stretch.specs.Stretches.{off, off_at, strays_on, strays, kept};
 ghost use Rattle.stretch.specs.Asked.{OnStroke, Stretch, tabled};
 
 use crate::MOST_PLACES;
@@ -54,7 +54,7 @@ fn off_between(
     high: usize,
 ) -> bool
     requires { Stretch places.now tolerance start ticks × (axis < 3) × (low ≤ high) × (high ≤ ticks) }
-    ensures { result ≡ anyBelow (λ k. off_at tolerance (tabled places.now axis) start ticks (low + k)) (high - low) }
+    ensures { result ≡ any_below (λ k. off_at tolerance (tabled places.now axis) start ticks (low + k)) (high - low) }
 {
     let mut u = low;
     while u < high {
@@ -70,7 +70,7 @@ fn off_between(
 // and then no other place need be looked at.
 fn strays_on(places: &[i64], tolerance: u64, axis: usize, start: usize, ticks: usize) -> bool
     requires { Stretch places.now tolerance start ticks × (axis < 3) × (2 ≤ ticks) }
-    ensures { result ≡ straysOn tolerance (tabled places.now axis) start ticks }
+    ensures { result ≡ strays_on tolerance (tabled places.now axis) start ticks }
 {
     let middle = ticks / 2;
     if off_between(places, tolerance, axis, start, ticks, middle, ticks) {

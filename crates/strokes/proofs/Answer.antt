@@ -10,44 +10,44 @@ use lib.IntN.{ℤ, pos, negsuc, nat_abs}
 use lib.ListN.{length, drop}
 use lib.Seq.{sets, sets-eq}
 use Rattle.sheet.specs.Answers.{Told, refused}
-use Rattle.sheet.specs.Bytes.{anyBelow}
+use Rattle.sheet.specs.Bytes.{any_below}
 use Rattle.sheet.specs.Fields.{points, legs}
 use Rattle.sheet.specs.declared.Refusal.{Refusal}
 use Rattle.sheet.specs.declared.Refusal.TheVariants.{Ink}
 use Rattle.sheet.proofs.Below.{or_right}
-use Rattle.answers.proofs.Guards.{refused-keeps}
+use Rattle.answers.proofs.Guards.{refused_keeps}
 use Rattle.spline.specs.Spline.{next}
 use Rattle.layout.specs.Course.{course}
-use Rattle.place.specs.Places.{bendOutside}
-use Rattle.strokes.specs.Asked.{bendsAt}
-use Rattle.strokes.specs.Strokes.{strokeEnds, grainOutside, anyBend, inkOrEnds, leftBy}
+use Rattle.place.specs.Places.{bend_outside}
+use Rattle.strokes.specs.Asked.{bends_at}
+use Rattle.strokes.specs.Strokes.{stroke_ends, grain_outside, any_bend, ink_or_ends, left_by}
 use Rattle.strokes.proofs.Worked as worked
 
 -- a refusal leaves the list as it was
-pub refused-by : (r : Refusal) {t : Told} (ends out : List ℕ) → refused r ≡ t → (refused r ≡ t) × (out ≡ leftBy t ends out)
-refused-by r {t} ends out e = (e, sym (refused-keeps t (ends ++ drop (length ends) out) out r e))
+pub refused_by : (r : Refusal) {t : Told} (ends out : List ℕ) → refused r ≡ t → (refused r ≡ t) × (out ≡ left_by t ends out)
+refused_by r {t} ends out e = (e, sym (refused_keeps t (ends ++ drop (length ends) out) out r e))
 
 module _ (s : List ℕ) (list : List ℤ) (t : ℕ) (out : List ℕ) where
-  pub ink : length out < length (strokeEnds s list t) → refused Ink ≡ inkOrEnds s list t (length out)
-  ink h = simp (lt-ltb (length out) (length (strokeEnds s list t)) h)
+  pub ink : length out < length (stroke_ends s list t) → refused Ink ≡ ink_or_ends s list t (length out)
+  ink h = simp (lt-ltb (length out) (length (stroke_ends s list t)) h)
 
-  pub ends-told : length (strokeEnds s list t) ≤ length out
-      → ◌≡◌ {A = Told} (record { number = 0; values = pos (length (strokeEnds s list t)) ∷ [] }) (inkOrEnds s list t (length out))
-  ends-told h = simp (le-ltb (length out) (length (strokeEnds s list t)) h)
+  pub ends_told : length (stroke_ends s list t) ≤ length out
+      → ◌≡◌ {A = Told} (record { number = 0; values = pos (length (stroke_ends s list t)) ∷ [] }) (ink_or_ends s list t (length out))
+  ends_told h = simp (le-ltb (length out) (length (stroke_ends s list t)) h)
 
-  pub ends-left : length (strokeEnds s list t) ≤ length out
-      → sets out 0 (strokeEnds s list t) ≡ leftBy (inkOrEnds s list t (length out)) (strokeEnds s list t) out
-  ends-left h =
-      let ends = strokeEnds s list t in
+  pub ends_left : length (stroke_ends s list t) ≤ length out
+      → sets out 0 (stroke_ends s list t) ≡ left_by (ink_or_ends s list t (length out)) (stroke_ends s list t) out
+  ends_left h =
+      let ends = stroke_ends s list t in
       let e : 0 + length ends ≡ length ends = omega arith in
-      sets-eq ends out 0 (omega arith) ∙ ap (λ k. ends ++ drop k out) e ∙ ap (λ x. leftBy x ends out) (ends-told h)
+      sets-eq ends out 0 (omega arith) ∙ ap (λ k. ends ++ drop k out) e ∙ ap (λ x. left_by x ends out) (ends_told h)
 
 -- a tolerance that 21 lets pass
-pub fine-is : (z : ℤ) → grainOutside z ≡ false → (z ≡ pos (nat_abs z)) × (nat_abs z ≤ 1_000)
-fine-is (pos n) e = (refl, ltb-false 1_000 n (or_right (ltb n 0) (ltb 1_000 n) e))
-fine-is (negsuc n) e = absurd (false≢true (sym e))
+pub fine_is : (z : ℤ) → grain_outside z ≡ false → (z ≡ pos (nat_abs z)) × (nat_abs z ≤ 1_000)
+fine_is (pos n) e = (refl, ltb-false 1_000 n (or_right (ltb n 0) (ltb 1_000 n) e))
+fine_is (negsuc n) e = absurd (false≢true (sym e))
 
 -- 12, as the code asks it of a list
-pub bends-are : (s : List ℕ) (list : List ℤ) → anyBelow (bendsAt list (points s)) (legs s) ≡ anyBend s list
-unfolding anyBend bendOutside next course
-bends-are s list = refl
+pub bends_are : (s : List ℕ) (list : List ℤ) → any_below (bends_at list (points s)) (legs s) ≡ any_bend s list
+unfolding any_bend bend_outside next course
+bends_are s list = refl

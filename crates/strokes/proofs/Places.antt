@@ -7,38 +7,38 @@ use native.Mathlib.Nat.{mul-le-mul, le_refl}
 use native.Mathlib.Omega.{arith}
 use lib.IntN.{ℤ, nat_abs}
 use Rattle.integers.proofs.Made.{times, minus}
-use Rattle.rounding.proofs.Laws.{rounded-size}
+use Rattle.rounding.proofs.Laws.{rounded_size}
 use Rattle.sheet.specs.Fields.{leg}
 use Rattle.spline.specs.Position.{numerator, position}
 use Rattle.runner.specs.Ticks.{runner}
 use Rattle.place.specs.Asked.{OnLeg, Fitting}
-use Rattle.place.specs.Places.{bendOutside, end_of, placeOn}
+use Rattle.place.specs.Places.{bend_outside, end_of, place_on}
 use Rattle.place.proofs.Fitting.{numbers_fit}
-use Rattle.place.proofs.Numerator.{scale, ends, bend, numerator-is}
+use Rattle.place.proofs.Numerator.{scale, ends, bend, numerator_is}
 use Rattle.stretch.specs.Asked.{Small}
-use Rattle.strokes.specs.Strokes.{placesOn}
+use Rattle.strokes.specs.Strokes.{places_on}
 
-position-small : (h u : ℕ) (v w z y : ℤ) → OnLeg h u v w z y → Small (position h u v w z y)
+position_small : (h u : ℕ) (v w z y : ℤ) → OnLeg h u v w z y → Small (position h u v w z y)
 unfolding position
-position-small h u v w z y o =
+position_small h u v w z y o =
     let n = numerator h u v w z y in
     let size = (minus (times scale (ends o) tt) (bend o) tt).size in
     let r = nat_abs (position h u v w z y) in
     let low : r * 65536 ≤ r * (65536 * h) = mul-le-mul (le_refl r) (omega arith) in
-    omega (arith, ap nat_abs (numerator-is o), rounded-size n (65536 * h) (omega arith))
+    omega (arith, ap nat_abs (numerator_is o), rounded_size n (65536 * h) (omega arith))
 
 -- on a leg with bend numbers within 12's limits
-pub place-small : {s : List ℕ} {list : List ℤ} {n l i : ℕ} → Fitting s list n l (runner i 0) → bendOutside s list i ≡ false → end_of s i < n
-    → (axis u : ℕ) → axis < 3 → u ≤ leg s i → Small (placesOn s list i axis u)
-unfolding placeOn
-place-small f bends inside axis u fits on =
+pub place_small : {s : List ℕ} {list : List ℤ} {n l i : ℕ} → Fitting s list n l (runner i 0) → bend_outside s list i ≡ false → end_of s i < n
+    → (axis u : ℕ) → axis < 3 → u ≤ leg s i → Small (places_on s list i axis u)
+unfolding place_on
+place_small f bends inside axis u fits on =
     let o = numbers_fit f bends axis fits inside in
-    position-small _ u _ _ _ _ (record {
-      leg-low = o.leg-low;
-      leg-high = o.leg-high;
+    position_small _ u _ _ _ _ (record {
+      leg_low = o.leg_low;
+      leg_high = o.leg_high;
       offset = on;
       start = o.start;
       end = o.end;
-      start-bend = o.start-bend;
-      end-bend = o.end-bend;
+      start_bend = o.start_bend;
+      end_bend = o.end_bend;
     })

@@ -2,63 +2,63 @@
 -- and crate drawn.
 use Rattle.std.specs.Prelude.{Bool, cond, List, [], ◌∷◌, ◌++◌, ℕ, zero, suc, ltb, eqb, ℤ, pos, nat_abs, length, drop}
 use Rattle.sheet.specs.Answers.{Told, refused}
-use Rattle.sheet.specs.Bytes.{anyBelow, sumBelow}
+use Rattle.sheet.specs.Bytes.{any_below, sum_below}
 use Rattle.sheet.specs.Fields.{legs, leg}
-use Rattle.sheet.specs.Reading.{outside, readSheet}
+use Rattle.sheet.specs.Reading.{outside, read_sheet}
 use Rattle.sheet.specs.declared.Refusal.TheVariants.{Shelf, Bend, Grain, Ink}
-use Rattle.answers.specs.Answers.{passOn, guard}
+use Rattle.answers.specs.Answers.{pass_on, guard}
 use Rattle.layout.specs.Layout.{short}
 use Rattle.runner.specs.Ticks.{runner}
-use Rattle.place.specs.Places.{bendOutside, placeOn}
-use Rattle.stretch.specs.Stretches.{endsOf}
+use Rattle.place.specs.Places.{bend_outside, place_on}
+use Rattle.stretch.specs.Stretches.{ends_of}
 use Rattle.strokes.specs.declared.StrokesAnswer.{StrokesAnswer}
 use Rattle.strokes.specs.declared.StrokesAnswer.TheVariants.{Ends, Refused}
 
 -- H1: the places of a leg, by axis and offset
-abbrev pub placesOn : List ℕ → List ℤ → ℕ → ℕ → ℕ → ℤ
-placesOn s list i axis u = placeOn s list (runner i u) axis
+abbrev pub places_on : List ℕ → List ℤ → ℕ → ℕ → ℕ → ℤ
+places_on s list i axis u = place_on s list (runner i u) axis
 
 -- H3: a leg begins as one stretch
-abbrev pub legEnds : List ℕ → List ℤ → ℕ → ℕ → List ℕ
-legEnds s list tolerance i = endsOf tolerance (placesOn s list i) (sumBelow (leg s) i) 0 (leg s i)
+abbrev pub leg_ends : List ℕ → List ℤ → ℕ → ℕ → List ℕ
+leg_ends s list tolerance i = ends_of tolerance (places_on s list i) (sum_below (leg s) i) 0 (leg s i)
 
 -- H4: 0, and the ends on the first n legs
-unfoldable pub endsBelow : List ℕ → List ℤ → ℕ → ℕ → List ℕ
-endsBelow s list tolerance zero = 0 ∷ []
-endsBelow s list tolerance (suc n) = endsBelow s list tolerance n ++ legEnds s list tolerance n
+unfoldable pub ends_below : List ℕ → List ℤ → ℕ → ℕ → List ℕ
+ends_below s list tolerance zero = 0 ∷ []
+ends_below s list tolerance (suc n) = ends_below s list tolerance n ++ leg_ends s list tolerance n
 
 -- H4
-abbrev pub strokeEnds : List ℕ → List ℤ → ℕ → List ℕ
-strokeEnds s list tolerance = endsBelow s list tolerance (legs s)
+abbrev pub stroke_ends : List ℕ → List ℤ → ℕ → List ℕ
+stroke_ends s list tolerance = ends_below s list tolerance (legs s)
 
 -- N21
-abbrev pub grainOutside : ℤ → Bool
-grainOutside tolerance = outside 0 1_000 tolerance
+abbrev pub grain_outside : ℤ → Bool
+grain_outside tolerance = outside 0 1_000 tolerance
 
 -- N12, of some leg
-unfoldable pub anyBend : List ℕ → List ℤ → Bool
-anyBend s list = anyBelow (bendOutside s list) (legs s)
+unfoldable pub any_bend : List ℕ → List ℤ → Bool
+any_bend s list = any_below (bend_outside s list) (legs s)
 
 -- F8: number and values of each case
-abbrev pub toldStrokes : StrokesAnswer → Told
-toldStrokes (Ends n) = record { number = 0; values = pos n ∷ [] }
-toldStrokes (Refused r) = refused r
+abbrev pub told_strokes : StrokesAnswer → Told
+told_strokes (Ends n) = record { number = 0; values = pos n ∷ [] }
+told_strokes (Refused r) = refused r
 
 -- N22, where the list has so much room; otherwise how many ends there are
-abbrev pub inkOrEnds : List ℕ → List ℤ → ℕ → ℕ → Told
-inkOrEnds s list tolerance room = guard (ltb room (length (strokeEnds s list tolerance))) Ink (toldStrokes (Ends (length (strokeEnds s list tolerance))))
+abbrev pub ink_or_ends : List ℕ → List ℤ → ℕ → ℕ → Told
+ink_or_ends s list tolerance room = guard (ltb room (length (stroke_ends s list tolerance))) Ink (told_strokes (Ends (length (stroke_ends s list tolerance))))
 
 -- A15
-unfoldable pub strokesAnswer : List ℕ → List ℤ → ℤ → ℕ → Told
-strokesAnswer s list tolerance room =
-    passOn (readSheet s)
+unfoldable pub strokes_answer : List ℕ → List ℤ → ℤ → ℕ → Told
+strokes_answer s list tolerance room =
+    pass_on (read_sheet s)
     (guard (short s (length list)) Shelf
-    (guard (grainOutside tolerance) Grain
-    (guard (anyBend s list) Bend (inkOrEnds s list (nat_abs tolerance) room))))
+    (guard (grain_outside tolerance) Grain
+    (guard (any_bend s list) Bend (ink_or_ends s list (nat_abs tolerance) room))))
 
 -- H4, A9: the list afterwards: the ends, then what stood behind them; a refused call leaves it whole
-abbrev pub leftBy : Told → List ℕ → List ℕ → List ℕ
-leftBy told ends list = cond (eqb told.number 0) (ends ++ drop (length ends) list) list
+abbrev pub left_by : Told → List ℕ → List ℕ → List ℕ
+left_by told ends list = cond (eqb told.number 0) (ends ++ drop (length ends) list) list
 
-unfoldable pub drawnInto : List ℕ → List ℤ → ℤ → List ℕ → List ℕ
-drawnInto s list tolerance out = leftBy (strokesAnswer s list tolerance (length out)) (strokeEnds s list (nat_abs tolerance)) out
+unfoldable pub drawn_into : List ℕ → List ℤ → ℤ → List ℕ → List ℕ
+drawn_into s list tolerance out = left_by (strokes_answer s list tolerance (length out)) (stroke_ends s list (nat_abs tolerance)) out

@@ -2,7 +2,7 @@
 ghost use Rattle.std.specs.Prelude.{◌≡◌, leb, length};
 ghost use Rattle.std.proofs.lemmas.List.Edits.{sets};
 ghost use Rattle.sheet.specs.Fields.{ticks as sumOfLegs};
-ghost use Rattle.strokes.specs.Strokes.{strokeEnds};
+ghost use Rattle.strokes.specs.Strokes.{stroke_ends};
 ghost use Rattle.strokes.specs.Asked.{OnCourse};
 
 use crate::leg::{TABLE, leg_ends};
@@ -18,8 +18,8 @@ pub fn course_ends(
     ends: &mut [u64],
 ) -> usize
     requires { OnCourse s.now list.now points legs tolerance }
-    ensures count { result ≡ length (strokeEnds s.now list.now tolerance) }
-    ensures ends { ends.new ≡ sets ends.old 0 (strokeEnds s.now list.now tolerance) }
+    ensures count { result ≡ length (stroke_ends s.now list.now tolerance) }
+    ensures ends { ends.new ≡ sets ends.old 0 (stroke_ends s.now list.now tolerance) }
 {
     let mut places = [0i64; TABLE];
     let mut n = put_end(ends, 0, 0);
@@ -57,7 +57,7 @@ pub fn has_room(
     room: usize,
 ) -> bool
     requires { OnCourse s.now list.now points legs tolerance × (ticks ≡ sumOfLegs s.now) }
-    ensures { result ≡ leb (length (strokeEnds s.now list.now tolerance)) room }
+    ensures { result ≡ leb (length (stroke_ends s.now list.now tolerance)) room }
 {
     if ticks < room as u64 {
         return true;

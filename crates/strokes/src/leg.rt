@@ -5,8 +5,8 @@ ghost use Rattle.sheet.specs.Fields.{leg};
 ghost use Rattle.spline.specs.Position.{position};
 ghost use Rattle.runner.specs.Ticks.{runner};
 ghost use Rattle.place.specs.Asked.{OnLeg, Fitting};
-ghost use Rattle.place.specs.Places.{bendOutside, end_of};
-ghost use Rattle.strokes.specs.Strokes.{placesOn, legEnds};
+ghost use Rattle.place.specs.Places.{bend_outside, end_of};
+ghost use Rattle.strokes.specs.Strokes.{places_on, leg_ends};
 ghost use Rattle.strokes.specs.Asked.{Filled, Table, OnCourse, OnLegOf};
 
 use place::numbers_on;
@@ -46,10 +46,10 @@ fn put_places(
     x: &mut [i64],
 )
     requires fitting { Fitting s.now list.now points legs (runner i 0) }
-    requires i_value { bendOutside s.now list.now i ≡ false }
+    requires i_value { bend_outside s.now list.now i ≡ false }
     requires end_value { (end ≡ end_of s.now i) × (end < points) × (h ≡ leg s.now i) }
     requires axis_bound { (axis < 3) × (length x.old ≡ 257) }
-    ensures { Filled x.new h (placesOn s.now list.now i axis) }
+    ensures { Filled x.new h (places_on s.now list.now i axis) }
 {
     let at = Runner {
         leg: i as u64,
@@ -75,9 +75,9 @@ fn put_table(
     places: &mut [i64],
 )
     requires fitting { Fitting s.now list.now points legs (runner i 0) }
-    requires i_value { bendOutside s.now list.now i ≡ false }
+    requires i_value { bend_outside s.now list.now i ≡ false }
     requires h_value { (h ≡ leg s.now i) × (length places.old ≡ 771) }
-    ensures { Table places.new h (placesOn s.now list.now i) }
+    ensures { Table places.new h (places_on s.now list.now i) }
 {
     let end = sheet::end_of(points, i);
     put_places(s, list, points, legs, i, end, h, 0, &mut places[0..EAST]);
@@ -101,8 +101,8 @@ pub fn leg_ends(
 ) -> usize
     requires on_course { OnCourse s.now list.now points legs tolerance × OnLegOf s.now i from n }
     requires h_value { (h ≡ leg s.now i) × (length places.old ≡ 771) }
-    ensures count { result ≡ n + length (legEnds s.now list.now tolerance i) }
-    ensures ends { ends.new ≡ sets ends.old n (legEnds s.now list.now tolerance i) }
+    ensures count { result ≡ n + length (leg_ends s.now list.now tolerance i) }
+    ensures ends { ends.new ≡ sets ends.old n (leg_ends s.now list.now tolerance i) }
 {
     put_table(s, list, points, legs, i, h, places);
     cut(places, tolerance, from, 0, h as usize, ends, n)

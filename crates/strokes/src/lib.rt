@@ -3,10 +3,10 @@ mod course;
 mod leg;
 
 ghost use Rattle.std.specs.Prelude.{◌≡◌, ◌+◌, length};
-ghost use Rattle.sheet.specs.Bytes.{anyBelow};
+ghost use Rattle.sheet.specs.Bytes.{any_below};
 ghost use Rattle.sheet.specs.Fields.{ticks as sumOfLegs};
-ghost use Rattle.strokes.specs.Strokes.{grainOutside, strokeEnds, inkOrEnds, leftBy, strokesAnswer, drawnInto, toldStrokes};
-ghost use Rattle.strokes.specs.Asked.{OnCourse, BendsAsked, bendsAt};
+ghost use Rattle.strokes.specs.Strokes.{grain_outside, stroke_ends, ink_or_ends, left_by, strokes_answer, drawn_into, told_strokes};
+ghost use Rattle.strokes.specs.Asked.{OnCourse, BendsAsked, bends_at};
 
 use course::{course_ends, has_room};
 use sheet::{Reading, Refusal};
@@ -23,7 +23,7 @@ pub enum StrokesAnswer {
 
 // N21.
 fn grain_outside(tolerance: i64) -> bool
-    ensures { result ≡ grainOutside tolerance }
+    ensures { result ≡ grain_outside tolerance }
 {
     (tolerance < 0) | (MOST_TOLERANCE < tolerance)
 }
@@ -31,7 +31,7 @@ fn grain_outside(tolerance: i64) -> bool
 // N12, of every leg.
 fn any_bend(list: &[i64], points: usize, legs: usize) -> bool
     requires { BendsAsked list.now points legs }
-    ensures { result ≡ anyBelow (bendsAt list.now points) legs }
+    ensures { result ≡ any_below (bends_at list.now points) legs }
 {
     let mut i = 0;
     while i < legs {
@@ -54,8 +54,8 @@ fn draw(
     ends: &mut [u64],
 ) -> StrokesAnswer
     requires { OnCourse s.now list.now points legs tolerance × (ticks ≡ sumOfLegs s.now) }
-    ensures told { toldStrokes result ≡ inkOrEnds s.now list.now tolerance (length ends.old) }
-    ensures ends { ends.new ≡ leftBy (inkOrEnds s.now list.now tolerance (length ends.old)) (strokeEnds s.now list.now tolerance) ends.old }
+    ensures told { told_strokes result ≡ ink_or_ends s.now list.now tolerance (length ends.old) }
+    ensures ends { ends.new ≡ left_by (ink_or_ends s.now list.now tolerance (length ends.old)) (stroke_ends s.now list.now tolerance) ends.old }
 {
     let room = ends.len();
     if !has_room(s, list, points, legs, ticks, tolerance, room) {
@@ -66,8 +66,8 @@ fn draw(
 
 // A15: tests 1 to 9, 21, 12 and 22; a refused call leaves the list as it was.
 pub fn strokes(s: &[u8], list: &[i64], tolerance: i64, ends: &mut [u64]) -> StrokesAnswer
-    ensures told { toldStrokes result ≡ strokesAnswer s.now list.now tolerance (length ends.old) }
-    ensures ends { ends.new ≡ drawnInto s.now list.now tolerance ends.old }
+    ensures told { told_strokes result ≡ strokes_answer s.now list.now tolerance (length ends.old) }
+    ensures ends { ends.new ≡ drawn_into s.now list.now tolerance ends.old }
 {
     let reading = sheet::read(s);
     let Reading::Course {

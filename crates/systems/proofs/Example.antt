@@ -13,7 +13,7 @@ use Rattle.integers.proofs.Ring.{◌⊕◌, ◌⊗◌, ⊝◌, #◌}
 use Rattle.integers.proofs.Linear.{◌≐◌, ◌⊢◌≗◌with◌, lin}
 use Rattle.integers.proofs.Tried.{Tried, tried}
 use Rattle.rounding.specs.Rounded.{rounded}
-use Rattle.systems.specs.Rows.{Row, rowSum, Rows, Dominant, Solves, Solution}
+use Rattle.systems.specs.Rows.{Row, row_sum, Rows, Dominant, Solves, Solution}
 use Rattle.systems.specs.Passes.{target, renewed, turn, sweep, pass, passes}
 use Rattle.systems.specs.Theorems.{Solvable, Unique, Passing, FortyPassesNear, PassesBounded, EarlyEnd}
 use Rattle.systems.proofs.Below.{below}
@@ -37,7 +37,7 @@ rows = record { size = 4; prev = λ i. i - 1; next = λ i. cond (row i).present 
 dominant : Dominant 2 rows
 dominant = record {
   two = lit≤ tt;
-  prev-fits = λ i h. omega arith;
+  prev_fits = λ i h. omega arith;
   next_fits = below 4 (λ i. rows.next i < 4) ((((tt, lit≤ tt), lit≤ tt), lit≤ tt), lit≤ tt);
   outer = below 4 (λ i. 2 * ((row i).before + (row i).after) ≤ (row i).middle) ((((tt, lit≤ tt), lit≤ tt), lit≤ tt), lit≤ tt);
   some = below 4 (λ i. 1 ≤ (row i).middle) ((((tt, lit≤ tt), lit≤ tt), lit≤ tt), lit≤ tt);
@@ -65,7 +65,7 @@ exact (suc (suc zero)) = negsuc 42
 exact (suc (suc (suc i))) = pos 0
 
 solves : Solves rows 15 exact
-solves = below 4 (λ i. rowSum (row i) (exact (rows.prev i)) (exact i) (exact (rows.next i)) ≡ pos 15 *ℤ (row i).right) ((((tt, refl), refl), refl), refl)
+solves = below 4 (λ i. row_sum (row i) (exact (rows.prev i)) (exact i) (exact (rows.next i)) ≡ pos 15 *ℤ (row i).right) ((((tt, refl), refl), refl), refl)
 
 -- 65,536 times the exact numbers are 161,655.47 and -187,869.87
 computed : passes rows 65536 40 zeros ≡ pos 0 ∷ pos 161656 ∷ negsuc 187869 ∷ pos 0 ∷ []
@@ -73,33 +73,33 @@ unfolding rounded target renewed turn sweep pass passes
 computed = refl
 
 -- the first of them is 8/15 away: within nine eighths, not within four
-near-tried : Tried
+near_tried : Tried
 unfolding rounded target renewed turn sweep pass passes
-near-tried = tried (λ (near : FortyPassesNear). near 2 rows 65536 327680 zeros passing (lit≤ tt) 15 exact solves 1 (lit≤ tt)) (lit≤ tt)
+near_tried = tried (λ (near : FortyPassesNear). near 2 rows 65536 327680 zeros passing (lit≤ tt) 15 exact solves 1 (lit≤ tt)) (lit≤ tt)
 
 -- the solution over 30 has twice the numbers: 30 × 37 = 15 × 74
-unique-tried : Tried
-unique-tried = tried (λ (same : Unique). same 2 rows dominant 15 30 exact doubled solves (below 4 Row30 ((((tt, refl), refl), refl), refl)) 1 (lit≤ tt)) refl
+unique_tried : Tried
+unique_tried = tried (λ (same : Unique). same 2 rows dominant 15 30 exact doubled solves (below 4 Row30 ((((tt, refl), refl), refl), refl)) 1 (lit≤ tt)) refl
   where
     doubled : ℕ → ℤ
     doubled i = pos 2 *ℤ exact i
 
     Row30 : ℕ → Type 0
-    Row30 i = rowSum (row i) (doubled (rows.prev i)) (doubled i) (doubled (rows.next i)) ≡ pos 30 *ℤ (row i).right
+    Row30 i = row_sum (row i) (doubled (rows.prev i)) (doubled i) (doubled (rows.next i)) ≡ pos 30 *ℤ (row i).right
 
 -- passes settle, they do not go back: what 40 of them give is not what none gives
-early-tried : Tried
-early-tried = tried (λ (early : EarlyEnd). early rows 65536 zeros 40 0) (λ later settled. absurd (omega arith))
+early_tried : Tried
+early_tried = tried (λ (early : EarlyEnd). early rows 65536 zeros 40 0) (λ later settled. absurd (omega arith))
 
 -- ---- 2 x = 1, passed over at the scale 1: a half is rounded up, and the bound Q = 1 is reached
 abbrev half : Rows
 half = record { size = 1; prev = λ i. 0; next = λ i. 0; row = λ i. record { present = true; before = 0; middle = 2; after = 0; right = pos 1 } }
 
-half-passing : Passing 2 half 1 1 (pos 0 ∷ [])
-half-passing = record {
+half_passing : Passing 2 half 1 1 (pos 0 ∷ [])
+half_passing = record {
   dominant = record {
     two = lit≤ tt;
-    prev-fits = λ i h. lit≤ tt;
+    prev_fits = λ i h. lit≤ tt;
     next_fits = λ i h. lit≤ tt;
     outer = λ i h. lit≤ tt;
     some = λ i h. lit≤ tt;
@@ -110,9 +110,9 @@ half-passing = record {
   zeros = λ i h. get_or-replicate 1 i (pos 0) (pos 0) h;
 }
 
-bound-tried : Tried
+bound_tried : Tried
 unfolding rounded target renewed turn sweep pass passes
-bound-tried = tried (λ (bounded : PassesBounded). bounded 2 half 1 1 (pos 0 ∷ []) half-passing 1 0 0 (lit≤ tt) (lit≤ tt)) (lit≤ tt)
+bound_tried = tried (λ (bounded : PassesBounded). bounded 2 half 1 1 (pos 0 ∷ []) half_passing 1 0 0 (lit≤ tt) (lit≤ tt)) (lit≤ tt)
 
 -- ---- x0 + x1 = 1 and x1 + x0 = 0: dominant by 1, and without solution. So 1 is not enough.
 abbrev singular : Rows
@@ -130,5 +130,5 @@ unsolved s =
     (pos s.denominator) (s.unknown 0) (s.unknown 1) (s.solves 0 (lit≤ tt)) (s.solves 1 (lit≤ tt)) in
     omega (arith, ap nat_abs none, s.positive)
 
-one-tried : Tried
-one-tried = tried {Fact = ¬ Dominant 1 singular} (λ (solvable : Solvable) dominant. unsolved (solvable 1 singular dominant)) (λ dominant. omega (arith, dominant.two))
+one_tried : Tried
+one_tried = tried {Fact = ¬ Dominant 1 singular} (λ (solvable : Solvable) dominant. unsolved (solvable 1 singular dominant)) (λ dominant. omega (arith, dominant.two))

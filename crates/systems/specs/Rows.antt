@@ -11,8 +11,8 @@ pub record Row : Type 0 where
   pub right : ℤ
 
 -- the left side of a row, at the values a, b, z of the neighbour before, the unknown itself and the neighbour after
-abbrev pub rowSum : Row → ℤ → ℤ → ℤ → ℤ
-rowSum r a b z = pos r.before *ℤ a +ℤ pos r.middle *ℤ b +ℤ pos r.after *ℤ z
+abbrev pub row_sum : Row → ℤ → ℤ → ℤ → ℤ
+row_sum r a b z = pos r.before *ℤ a +ℤ pos r.middle *ℤ b +ℤ pos r.after *ℤ z
 
 -- R6: half the middle factor. That a course's outer factors add up to it is proved (RowGap, crate spline).
 abbrev pub gap : Row → ℕ
@@ -28,7 +28,7 @@ pub record Rows : Type 0 where
 -- every row is dominant by k: the middle factor is at least k times the outer ones together
 pub record Dominant (k : ℕ) (R : Rows) : Type 0 where
   pub two : 2 ≤ k
-  pub prev-fits : (i : ℕ) → i < R.size → R.prev i < R.size
+  pub prev_fits : (i : ℕ) → i < R.size → R.prev i < R.size
   pub next_fits : (i : ℕ) → i < R.size → R.next i < R.size
   pub outer : (i : ℕ) → i < R.size → k * ((R.row i).before + (R.row i).after) ≤ (R.row i).middle
   pub some : (i : ℕ) → i < R.size → 1 ≤ (R.row i).middle
@@ -36,7 +36,7 @@ pub record Dominant (k : ℕ) (R : Rows) : Type 0 where
 
 -- x over the denominator D solves the rows
 abbrev pub Solves : Rows → ℕ → (ℕ → ℤ) → Type 0
-Solves R D x = (i : ℕ) → i < R.size → rowSum (R.row i) (x (R.prev i)) (x i) (x (R.next i)) ≡ pos D *ℤ (R.row i).right
+Solves R D x = (i : ℕ) → i < R.size → row_sum (R.row i) (x (R.prev i)) (x i) (x (R.next i)) ≡ pos D *ℤ (R.row i).right
 
 -- a solution over some positive denominator
 pub record Solution (R : Rows) : Type 0 where

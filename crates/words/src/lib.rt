@@ -1,13 +1,13 @@
 // The line of each refusal (T4), whole, in one byte string (F6). For the stand's output.
 ghost use Rattle.std.specs.Prelude.{◌≡◌, ◌≤◌, length, take};
-ghost use Rattle.words.specs.Words.{refusalLine, refusalRows};
+ghost use Rattle.words.specs.Words.{refusal_line, refusal_rows};
 
 use sheet::Refusal;
 
 // Copies the refusal's line, which begins its row and ends with the line feed, to the buffer's front, and answers its length.
 fn put_row(rows: &[u8], refusal: Refusal, out: &mut [u8]) -> usize
-    requires { (rows.now ≡ refusalRows) × (19 ≤ length out.old) }
-    ensures { (result ≤ length out.new) × (take result out.new ≡ refusalLine refusal) }
+    requires { (rows.now ≡ refusal_rows) × (19 ≤ length out.old) }
+    ensures { (result ≤ length out.new) × (take result out.new ≡ refusal_line refusal) }
 {
     let start = 19 * (sheet::number_of(refusal) as usize - 1);
     let end = bytes::scan::find(rows, start, start + 19, b'\n') + 1;
@@ -17,7 +17,7 @@ fn put_row(rows: &[u8], refusal: Refusal, out: &mut [u8]) -> usize
 // The lines stand in rows of 19 bytes, in the order of their numbers, each filled up with spaces. Reading refuses with 1 to 8 alone; the table is whole.
 pub fn put_refusal(out: &mut [u8], refusal: Refusal) -> usize
     requires { 19 ≤ length out.old }
-    ensures { (result ≤ length out.new) × (take result out.new ≡ refusalLine refusal) }
+    ensures { (result ≤ length out.new) × (take result out.new ≡ refusal_line refusal) }
 {
     let rows = b"refused 1 torn\n    \
                  refused 2 edition\n \

@@ -8,11 +8,11 @@ use borrow.Author.Tests.{ltb-false}
 use lib.ListN.{length, drop}
 use Rattle.sheet.specs.Answers.{Told, refused}
 use Rattle.sheet.specs.declared.Refusal.{Refusal}
-use Rattle.answers.proofs.Guards.{done-changes, refused-keeps}
+use Rattle.answers.proofs.Guards.{done_changes, refused_keeps}
 use Rattle.lists.specs.Lists.{Lists, size_of}
-use Rattle.writer.specs.Sheets.{writtenSheet}
-use Rattle.lists.specs.Answer.{toldWritten, writeSheet}
-use Rattle.writer.specs.Writing.{writtenInto}
+use Rattle.writer.specs.Sheets.{written_sheet}
+use Rattle.lists.specs.Answer.{told_written, write_sheet}
+use Rattle.writer.specs.Writing.{written_into}
 use Rattle.lists.specs.Inside.{Writable}
 use Rattle.writer.specs.Inside.{over}
 use Rattle.lists.specs.declared.Written.TheVariants.{Length}
@@ -22,32 +22,32 @@ use Rattle.lists.proofs.Tests.{Unrefused, unrefused, answered, writable}
 
 module _ (c : Lists) (out : List ℕ) where
   abbrev new : List ℕ
-  new = writtenSheet c ++ drop (size_of c) out
+  new = written_sheet c ++ drop (size_of c) out
 
-  pub left-refused : (r : Refusal) → refused r ≡ writeSheet c (length out) → out ≡ writtenInto c out
-  unfolding writtenInto
-  left-refused r e = sym (refused-keeps (writeSheet c (length out)) new out r e)
+  pub left_refused : (r : Refusal) → refused r ≡ write_sheet c (length out) → out ≡ written_into c out
+  unfolding written_into
+  left_refused r e = sym (refused_keeps (write_sheet c (length out)) new out r e)
 
-  module _ (n : ℕ) (e : toldWritten (Length n) ≡ writeSheet c (length out)) where
-    done : (writeSheet c (length out)).number ≡ 0
+  module _ (n : ℕ) (e : told_written (Length n) ≡ write_sheet c (length out)) where
+    done : (write_sheet c (length out)).number ≡ 0
     done = sym (ap (λ (t : Told). t.number) e)
 
     passes : Unrefused c (length out)
     passes = unrefused c (length out) done
 
-    pub is-writable : Writable c
-    is-writable = writable c (length out) passes
+    pub is_writable : Writable c
+    is_writable = writable c (length out) passes
 
-    pub is-size : n ≡ size_of c
-    is-size =
-        let whole : toldWritten (Length n) ≡ toldWritten (Length (size_of c)) = e ∙ sym (answered c (length out) passes) in
+    pub is_size : n ≡ size_of c
+    is_size =
+        let whole : told_written (Length n) ≡ told_written (Length (size_of c)) = e ∙ sym (answered c (length out) passes) in
         let values = ap (λ (t : Told). t.values) whole in cc
 
     pub has_room : size_of c ≤ length out
     has_room = ltb-false (length out) (size_of c) passes.numbers.page
 
-    pub left-written : over (writtenSheet c) 0 out ≡ writtenInto c out
-    unfolding over writtenInto
-    left-written =
-        ap (λ k. writtenSheet c ++ drop k out) (zero-add (length (writtenSheet c)) ∙ long c is-writable)
-        ∙ sym (done-changes (writeSheet c (length out)) new out done)
+    pub left_written : over (written_sheet c) 0 out ≡ written_into c out
+    unfolding over written_into
+    left_written =
+        ap (λ k. written_sheet c ++ drop k out) (zero-add (length (written_sheet c)) ∙ long c is_writable)
+        ∙ sym (done_changes (write_sheet c (length out)) new out done)

@@ -19,9 +19,9 @@ module _ (l : List ℕ) (at : ℕ) where
     front = length-append (take at l) x ∙ ap (λ k. k + length x) (length-take-le at l (omega arith))
 
     -- y after x
-    over-more : (y : List ℕ) → over y (at + length x) (over x at l) ≡ over (x ++ y) at l
+    over_more : (y : List ℕ) → over y (at + length x) (over x at l) ≡ over (x ++ y) at l
     unfolding over
-    over-more y =
+    over_more y =
         let end : at + length x + length y ≡ at + length (x ++ y) = omega (arith, length-append x y) in
         let beyond : drop (at + length x + length y) (take at l ++ x ++ drop (at + length x) l) ≡ drop (at + length (x ++ y)) l =
         sym (drop-drop (length y) (at + length x) (take at l ++ x ++ drop (at + length x) l))
@@ -31,9 +31,9 @@ module _ (l : List ℕ) (at : ℕ) where
         ∙ ap (λ r. r ++ drop (at + length (x ++ y)) l) (append_assoc (take at l) x y)
 
 -- the same where the second place is known by an equation, and the first run by another
-pub over-next : (l : List ℕ) (at : ℕ) (x y : List ℕ) {m : List ℕ} {next : ℕ}
+pub over_next : (l : List ℕ) (at : ℕ) (x y : List ℕ) {m : List ℕ} {next : ℕ}
     → m ≡ over x at l → next ≡ at + length x → at + length x ≤ length l → over y next m ≡ over (x ++ y) at l
-over-next l at x y e q h = (λ i. over y (q i) (e i)) ∙ over-more l at x h y
+over_next l at x y e q h = (λ i. over y (q i) (e i)) ∙ over_more l at x h y
 
 -- ---- k of the bytes of s from `from` on, copied into as many of l's from `at` on; i and j are k as the code has it
 module _ (s : List ℕ) (from : ℕ) (l : List ℕ) (at k : ℕ) {i j : ℕ} (is : i ≡ k) (js : j ≡ k) where
@@ -44,10 +44,10 @@ module _ (s : List ℕ) (from : ℕ) (l : List ℕ) (at k : ℕ) {i j : ℕ} (is
   target = take j (drop at l)
 
   -- what a copy leaves in the target, put back
-  pub part-copied : from + k ≤ length s → at + k ≤ length l → {part : List ℕ} → part ≡ take (length source) source ++ drop (length source) target
+  pub part_copied : from + k ≤ length s → at + k ≤ length l → {part : List ℕ} → part ≡ take (length source) source ++ drop (length source) target
       → take at l ++ (part ++ drop j (drop at l)) ≡ over (take k (drop from s)) at l
   unfolding over
-  part-copied h room e =
+  part_copied h room e =
       let long = length-take-le i (drop from s) (omega (arith, length-drop from s)) in
       let wide = length-take-le j (drop at l) (omega (arith, length-drop at l)) in
       let none = drop_of_length-le target {i = length source} (omega arith) in
@@ -57,13 +57,13 @@ module _ (s : List ℕ) (from : ℕ) (l : List ℕ) (at k : ℕ) {i j : ℕ} (is
       ∙ sym (append_assoc (take at l) (take k (drop from s)) (drop (at + length (take k (drop from s))) l))
 
 -- ---- stores
-pub two-stored : (a b : ℕ) (l : List ℕ) (at : ℕ) → at + 2 ≤ length l → set (set l at a) (at + 1) b ≡ over (a ∷ b ∷ []) at l
+pub two_stored : (a b : ℕ) (l : List ℕ) (at : ℕ) → at + 2 ≤ length l → set (set l at a) (at + 1) b ≡ over (a ∷ b ∷ []) at l
 unfolding over
-two-stored a b l at h = ap (λ k. set (set l at a) k b) (add-one at) ∙ sets-eq (a ∷ b ∷ []) l at h
+two_stored a b l at h = ap (λ k. set (set l at a) k b) (add-one at) ∙ sets-eq (a ∷ b ∷ []) l at h
 
-pub four-stored : (a b c d : ℕ) (l : List ℕ) (at : ℕ) → at + 4 ≤ length l
+pub four_stored : (a b c d : ℕ) (l : List ℕ) (at : ℕ) → at + 4 ≤ length l
     → set (set (set (set l at a) (at + 1) b) (at + 2) c) (at + 3) d ≡ over (a ∷ b ∷ c ∷ d ∷ []) at l
 unfolding over
-four-stored a b c d l at h =
+four_stored a b c d l at h =
     let one : at + 1 ≡ suc at = omega arith in let two : at + 2 ≡ suc (suc at) = omega arith in let three : at + 3 ≡ suc (suc (suc at)) = omega arith in
     (λ i. set (set (set (set l at a) (one i) b) (two i) c) (three i) d) ∙ sets-eq (a ∷ b ∷ c ∷ d ∷ []) l at h

@@ -8,65 +8,65 @@ use lib.IntN.{pos, nat_abs}
 use lib.ListN.{length, get_or, length-append}
 use Rattle.ends.specs.declared.EndKind.{EndKind}
 use Rattle.ends.specs.declared.EndKind.TheVariants.{Free, Held, Closed}
-use Rattle.sheet.specs.Fields.{slopeBytes}
-use Rattle.sheet.proofs.Numbers.{within-size, reach-size}
-use Rattle.lists.specs.Lists.{Lists, kindIn, pointsIn, numberOn, slopeCount, size_of}
-use Rattle.writer.specs.Sheets.{bytes16, numberBytes, headBytes, writtenSheet}
+use Rattle.sheet.specs.Fields.{slope_bytes}
+use Rattle.sheet.proofs.Numbers.{within_size, reach_size}
+use Rattle.lists.specs.Lists.{Lists, kind_in, points_in, number_on, slope_count, size_of}
+use Rattle.writer.specs.Sheets.{bytes16, number_bytes, head_bytes, written_sheet}
 use Rattle.lists.specs.Inside.{Writable}
-use Rattle.writer.proofs.Sections.{flat-length}
+use Rattle.writer.proofs.Sections.{flat_length}
 
-pub slope-size : (k : EndKind) → slopeBytes k ≡ 4 * slopeCount k
-slope-size Free = refl
-slope-size Held = refl
-slope-size Closed = refl
+pub slope_size : (k : EndKind) → slope_bytes k ≡ 4 * slope_count k
+slope_size Free = refl
+slope_size Held = refl
+slope_size Closed = refl
 
 module _ (c : Lists) where
   abbrev pub head : List ℕ
-  head = headBytes (size_of c) c.kind (pointsIn c.waypoints)
+  head = head_bytes (size_of c) c.kind (points_in c.waypoints)
 
-  abbrev pub legPart : List ℕ
-  legPart = flat_map bytes16 c.legs
+  abbrev pub leg_part : List ℕ
+  leg_part = flat_map bytes16 c.legs
 
-  abbrev pub waypointPart : List ℕ
-  waypointPart = flat_map numberBytes c.waypoints
+  abbrev pub waypoint_part : List ℕ
+  waypoint_part = flat_map number_bytes c.waypoints
 
-  abbrev pub slopePart : List ℕ
-  slopePart = flat_map numberBytes c.slopes
+  abbrev pub slope_part : List ℕ
+  slope_part = flat_map number_bytes c.slopes
 
-  pub length-legs : length legPart ≡ 2 * length c.legs
-  length-legs = flat-length bytes16 2 (λ x. refl) c.legs
+  pub length_legs : length leg_part ≡ 2 * length c.legs
+  length_legs = flat_length bytes16 2 (λ x. refl) c.legs
 
-  pub length-waypoints : length waypointPart ≡ 4 * length c.waypoints
-  length-waypoints = flat-length numberBytes 4 (λ x. refl) c.waypoints
+  pub length_waypoints : length waypoint_part ≡ 4 * length c.waypoints
+  length_waypoints = flat_length number_bytes 4 (λ x. refl) c.waypoints
 
-  length-slopes : length slopePart ≡ 4 * length c.slopes
-  length-slopes = flat-length numberBytes 4 (λ x. refl) c.slopes
+  length_slopes : length slope_part ≡ 4 * length c.slopes
+  length_slopes = flat_length number_bytes 4 (λ x. refl) c.slopes
 
   -- cut before the waypoints, and before the slopes
-  pub cut-waypoints : writtenSheet c ≡ (head ++ legPart) ++ (waypointPart ++ slopePart)
-  unfolding writtenSheet
-  cut-waypoints = sym (append_assoc head legPart (waypointPart ++ slopePart))
+  pub cut_waypoints : written_sheet c ≡ (head ++ leg_part) ++ (waypoint_part ++ slope_part)
+  unfolding written_sheet
+  cut_waypoints = sym (append_assoc head leg_part (waypoint_part ++ slope_part))
 
-  pub cut-slopes : writtenSheet c ≡ ((head ++ legPart) ++ waypointPart) ++ (slopePart ++ [])
-  cut-slopes =
-      cut-waypoints ∙ sym (append_assoc (head ++ legPart) waypointPart slopePart)
-      ∙ ap (λ r. ((head ++ legPart) ++ waypointPart) ++ r) (sym (append-nil slopePart))
+  pub cut_slopes : written_sheet c ≡ ((head ++ leg_part) ++ waypoint_part) ++ (slope_part ++ [])
+  cut_slopes =
+      cut_waypoints ∙ sym (append_assoc (head ++ leg_part) waypoint_part slope_part)
+      ∙ ap (λ r. ((head ++ leg_part) ++ waypoint_part) ++ r) (sym (append-nil slope_part))
 
 module _ (c : Lists) (w : Writable c) where
   pub size_is : size_of c ≡ 8 + 2 * length c.legs + 4 * length c.waypoints + 4 * length c.slopes
-  size_is = omega (arith, w.three, w.all-legs, w.all-slopes, slope-size (kindIn c))
+  size_is = omega (arith, w.three, w.all_legs, w.all_slopes, slope_size (kind_in c))
 
-  pub long : length (writtenSheet c) ≡ size_of c
-  long = ap length (cut-slopes c) ∙ simp (length-append) (omega (arith, length-legs c, length-waypoints c, length-slopes c, size_is))
+  pub long : length (written_sheet c) ≡ size_of c
+  long = ap length (cut_slopes c) ∙ simp (length-append) (omega (arith, length_legs c, length_waypoints c, length_slopes c, size_is))
 
   -- every number fits 32 bits
-  pub number_small : (axis i : ℕ) → axis < 3 → i < pointsIn c.waypoints → nat_abs (numberOn c.waypoints axis i) < 2147483648
-  number_small axis i h k = omega (arith, reach-size axis (numberOn c.waypoints axis i) (w.reach-in axis i h k))
+  pub number_small : (axis i : ℕ) → axis < 3 → i < points_in c.waypoints → nat_abs (number_on c.waypoints axis i) < 2147483648
+  number_small axis i h k = omega (arith, reach_size axis (number_on c.waypoints axis i) (w.reach_in axis i h k))
 
-  pub each-small : (j : ℕ) → j < length c.waypoints → nat_abs (get_or c.waypoints j (pos 0)) < 2147483648
-  each-small j h =
+  pub each_small : (j : ℕ) → j < length c.waypoints → nat_abs (get_or c.waypoints j (pos 0)) < 2147483648
+  each_small j h =
       let up : 3 * (j / 3) + j % 3 ≡ j = omega arith in
       rw up at (number_small (j % 3) (j / 3) (omega arith) (omega (arith, w.three)))
 
-  pub slope-small : (i : ℕ) → i < length c.slopes → nat_abs (get_or c.slopes i (pos 0)) < 2147483648
-  slope-small i h = omega (arith, within-size 5_000 (get_or c.slopes i (pos 0)) (w.slope-in i h))
+  pub slope_small : (i : ℕ) → i < length c.slopes → nat_abs (get_or c.slopes i (pos 0)) < 2147483648
+  slope_small i h = omega (arith, within_size 5_000 (get_or c.slopes i (pos 0)) (w.slope_in i h))

@@ -3,8 +3,8 @@ mod put;
 
 ghost use Rattle.std.specs.Prelude.{◌≡◌, length};
 ghost use Rattle.lists.specs.Lists.{lists};
-ghost use Rattle.lists.specs.Answer.{toldWritten, writeSheet};
-ghost use Rattle.writer.specs.Writing.{writtenInto};
+ghost use Rattle.lists.specs.Answer.{told_written, write_sheet};
+ghost use Rattle.writer.specs.Writing.{written_into};
 
 use lists::Written;
 pub use put::{copy_part, put_head};
@@ -17,8 +17,8 @@ pub fn write(
     slopes: &[i64],
     sheet: &mut [u8],
 ) -> Written
-    ensures answer { toldWritten result ≡ writeSheet (lists kind legs.now waypoints.now slopes.now) (length sheet.old) }
-    ensures sheet { sheet.new ≡ writtenInto (lists kind legs.now waypoints.now slopes.now) sheet.old }
+    ensures answer { told_written result ≡ write_sheet (lists kind legs.now waypoints.now slopes.now) (length sheet.old) }
+    ensures sheet { sheet.new ≡ written_into (lists kind legs.now waypoints.now slopes.now) sheet.old }
 {
     let answer = lists::answer(kind, legs, waypoints, slopes, sheet.len());
     match answer {

@@ -2,7 +2,7 @@
 ghost use Rattle.std.specs.Prelude.{◌≡◌, ℕ, ◌+◌, ◌*◌, ◌≤◌, ◌<◌, pos, nat_abs, length, get_or, take, drop};
 ghost use mathlib.Core.List.{flat_map};
 ghost use Rattle.lists.specs.Lists.{lists, size_of};
-ghost use Rattle.writer.specs.Sheets.{bytes16, bytes32, bits32, numberBytes, headBytes, writtenSheet};
+ghost use Rattle.writer.specs.Sheets.{bytes16, bytes32, bits32, number_bytes, head_bytes, written_sheet};
 ghost use Rattle.lists.specs.Inside.{Writable};
 ghost use Rattle.writer.specs.Inside.{over};
 
@@ -50,7 +50,7 @@ fn put_legs(out: &mut [u8], from: usize, legs: &[u64])
 // S7, S8: waypoint numbers, or slopes, from `from` on.
 fn put_numbers(out: &mut [u8], from: usize, numbers: &[i64])
     requires { (from + 4 * length numbers.now ≤ length out.old) × ((i : ℕ) → i < length numbers.now → nat_abs (get_or numbers.now i (pos 0)) < 2147483648) }
-    ensures { out.new ≡ over (flat_map numberBytes numbers.now) from out.old }
+    ensures { out.new ≡ over (flat_map number_bytes numbers.now) from out.old }
 {
     let count = numbers.len();
     let mut i = 0;
@@ -63,7 +63,7 @@ fn put_numbers(out: &mut [u8], from: usize, numbers: &[i64])
 // S2 to S5: the count of bytes, version 1, the kind, N.
 pub fn put_head(out: &mut [u8], size: u64, kind: u64, n: u64)
     requires { (8 ≤ length out.old) × (kind ≤ 2) }
-    ensures { out.new ≡ over (headBytes size kind n) 0 out.old }
+    ensures { out.new ≡ over (head_bytes size kind n) 0 out.old }
 {
     put32(out, 0, size);
     put16(out, 4, 256 + kind);
@@ -88,7 +88,7 @@ pub fn put_sheet(
     sheet: &mut [u8],
 )
     requires { Writable (lists kind legs.now waypoints.now slopes.now) × (size ≡ size_of (lists kind legs.now waypoints.now slopes.now)) × (size ≤ length sheet.old) }
-    ensures { sheet.new ≡ over (writtenSheet (lists kind legs.now waypoints.now slopes.now)) 0 sheet.old }
+    ensures { sheet.new ≡ over (written_sheet (lists kind legs.now waypoints.now slopes.now)) 0 sheet.old }
 {
     let numbers = waypoints.len();
     let from = 8 + 2 * legs.len();

@@ -1,14 +1,14 @@
 -- Waypoints at the limits of reach (W14): what writing answers of lists, and what reading answers of their sheet.
 use Rattle.std.specs.Prelude.{◌≡◌, List, [], ◌∷◌, ℕ, ◌+◌, ℤ, pos, neg_ℤ}
 use Rattle.sheet.specs.Answers.{told}
-use Rattle.sheet.specs.Reading.{readSheet}
+use Rattle.sheet.specs.Reading.{read_sheet}
 use Rattle.lists.specs.Lists.{Lists, lists}
-use Rattle.lists.specs.Answer.{writeSheet}
-use Rattle.writer.specs.Sheets.{writtenSheet}
+use Rattle.lists.specs.Answer.{write_sheet}
+use Rattle.writer.specs.Sheets.{written_sheet}
 
 -- both answer this number, 0 where they do not refuse
 abbrev pub BothAnswer : ℕ → Lists → Type 0
-BothAnswer n c = ((writeSheet c 64).number ≡ n) × ((told (readSheet (writtenSheet c))).number ≡ n)
+BothAnswer n c = ((write_sheet c 64).number ≡ n) × ((told (read_sheet (written_sheet c))).number ≡ n)
 
 -- two waypoints, the home post and one with these numbers
 abbrev pub toward : ℤ → ℤ → ℤ → List ℤ
@@ -30,6 +30,6 @@ pub record ReachTried : Type 0 where
   pub east : LimitsAt (λ z. toward (pos 0) z (pos 0)) 1_000_000 1_000_000
   pub up : LimitsAt (λ z. toward (pos 0) (pos 0) z) 50_000 120_000
   -- above the ceiling, on a leg of 0 ticks: 6 goes before 7
-  pub leg-first : BothAnswer 6 (lists 0 (0 ∷ []) (toward (pos 0) (pos 0) (pos 120_001)) [])
+  pub leg_first : BothAnswer 6 (lists 0 (0 ∷ []) (toward (pos 0) (pos 0) (pos 120_001)) [])
   -- and held from a slope of 5,001: 8 comes after it
-  pub slope-after : BothAnswer 7 (lists 1 (2 ∷ []) (toward (pos 0) (pos 0) (pos 120_001)) (pos 5_001 ∷ pos 0 ∷ pos 0 ∷ pos 0 ∷ pos 0 ∷ pos 0 ∷ []))
+  pub slope_after : BothAnswer 7 (lists 1 (2 ∷ []) (toward (pos 0) (pos 0) (pos 120_001)) (pos 5_001 ∷ pos 0 ∷ pos 0 ∷ pos 0 ∷ pos 0 ∷ pos 0 ∷ []))

@@ -4,8 +4,8 @@ use mathlib.Core.List.{[]}
 use Prim.Native.Nat.{ℕ}
 use Rattle.sheet.specs.Bytes.{be16, be32}
 use Rattle.sheet.specs.Reading.{read_by}
-use Rattle.runner.specs.Steps.{steppedBy}
-use Rattle.boundary.specs.Written.{movedSlice}
+use Rattle.runner.specs.Steps.{stepped_by}
+use Rattle.boundary.specs.Written.{moved_slice}
 use Rattle.board.specs.Worked.{head}
 use borrow.Author.Rules.{rules}
 use Rattle.board.proofs.board_step.Statement.{statement}
@@ -13,10 +13,10 @@ use Rattle.board.proofs.board_step.Tie as tie
 
 -- tried at eight bytes that name 49 waypoints, without a runner: 23
 over-tried : (c : tie.After-step) → let a = c.before.before.before.before.args in a.sheet.now ≡ head 8 1 0 0 49 → a.lent.now ≡ [] → c.step.result ≡ 23
-unfolding be16 be32 read_by movedSlice
+unfolding be16 be32 read_by moved_slice
 over-tried c e f =
     let limit : ℕ = _ in
-    c.step.ensures.0 ∙ (λ i. (movedSlice limit (steppedBy limit) (e i) (f i)).number)
+    c.step.ensures.0 ∙ (λ i. (moved_slice limit (stepped_by limit) (e i) (f i)).number)
 
 step-requires : tie.Need-step-requires
 step-requires c κs = search rules

@@ -1,6 +1,6 @@
 -- `boundary::lay_out` meets its contract: the outcome told as a number.
 use mathlib.Core.Path.{sym, ap, ◌∙◌}
-use Rattle.answers.specs.Answers.{toldOutcome}
+use Rattle.answers.specs.Answers.{told_outcome}
 use Rattle.boundary.proofs.Tell.{number_is}
 use borrow.Author.Rules.{rules}
 use Rattle.boundary.proofs.lay_out.Statement.{statement}
@@ -23,7 +23,7 @@ same_length c = search rules
 
 returns : tie.Need-returns
 returns c =
-    let l = c.before.before.before.lay-out-by in (number_is (ap toldOutcome (sym c.enum_told.given.1) ∙ l.ensures.0), l.ensures.1)
+    let l = c.before.before.before.lay-out-by in (number_is (ap told_outcome (sym c.enum_told.given.1) ∙ l.ensures.0), l.ensures.1)
 
 same-length-2 : tie.Need-same-length-2
 same-length-2 c = search rules
@@ -31,7 +31,7 @@ same-length-2 c = search rules
 returns-2 : tie.Need-returns-2
 returns-2 c =
     let r = c.before.before in let l = r.before.before.before.lay-out-by in
-    (c.number_of_lem.ensures ∙ number_is (ap toldOutcome (sym r.r.given.1) ∙ l.ensures.0), l.ensures.1)
+    (c.number_of_lem.ensures ∙ number_is (ap told_outcome (sym r.r.given.1) ∙ l.ensures.0), l.ensures.1)
 
 pub lay-out-spec : {M : Type 1} → statement M
 lay-out-spec =

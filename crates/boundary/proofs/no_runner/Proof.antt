@@ -2,19 +2,19 @@
 use mathlib.Core.Path.{◌≡◌, sym, ap, ◌∙◌}
 use mathlib.Core.List.{List}
 use Prim.Native.Nat.{ℕ}
-use Rattle.answers.specs.Answers.{passOn}
-use Rattle.sheet.proofs.Told.{told-injective}
+use Rattle.answers.specs.Answers.{pass_on}
+use Rattle.sheet.proofs.Told.{told_injective}
 use Rattle.sheet.specs.Answers.{told, refused}
 use Rattle.sheet.specs.Reading.{read_by}
 use Rattle.sheet.specs.declared.Reading.{Reading}
 use Rattle.sheet.specs.declared.Refusal.TheVariants.{Adrift}
-use Rattle.boundary.specs.Written.{noRunner}
+use Rattle.boundary.specs.Written.{no_runner}
 use borrow.Author.Rules.{rules}
 use Rattle.boundary.proofs.no_runner.Statement.{statement}
 use Rattle.boundary.proofs.no_runner.Tie as tie
 
-by-reading : (limit : ℕ) (s : List ℕ) (a b : Reading) → told a ≡ told (read_by limit s) → a ≡ b → passOn b (refused Adrift) ≡ noRunner limit s
-by-reading limit s a b e is = ap (λ (x : Reading). passOn x (refused Adrift)) (sym is ∙ told-injective a (read_by limit s) e)
+by-reading : (limit : ℕ) (s : List ℕ) (a b : Reading) → told a ≡ told (read_by limit s) → a ≡ b → pass_on b (refused Adrift) ≡ no_runner limit s
+by-reading limit s a b e is = ap (λ (x : Reading). pass_on x (refused Adrift)) (sym is ∙ told_injective a (read_by limit s) e)
 
 read-by-requires : tie.Need-read-by-requires
 read-by-requires c κs = search rules

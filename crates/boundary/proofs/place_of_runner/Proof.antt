@@ -1,6 +1,6 @@
 -- `boundary::place_of_runner` meets its contract: the place is told, and telling writes it.
 use Rattle.boundary.specs.Written.{signed}
-use Rattle.boundary.proofs.Tell.{tells-on}
+use Rattle.boundary.proofs.Tell.{tells_on}
 use borrow.Author.Rules.{rules}
 use Rattle.boundary.proofs.place_of_runner.Statement.{statement}
 use Rattle.boundary.proofs.place_of_runner.Tie as tie
@@ -17,7 +17,7 @@ same_length c = search rules
 returns : tie.Need-returns
 returns c =
     let t = c.before in let p = t.before.before in
-    tells-on signed p.before.before.args.out.now t.tell-place.ensures p.place-of-runner-by.ensures.0
+    tells_on signed p.before.before.args.out.now t.tell-place.ensures p.place-of-runner-by.ensures.0
 
 pub place-of-runner-spec : {M : Type 1} → statement M
 place-of-runner-spec =

@@ -4,7 +4,7 @@ use native.Mathlib.Omega.{arith}
 use lib.ListN.{set, length-set}
 use Rattle.integers.proofs.Machine.{back}
 use mathlib.Core.List.{[], ◌∷◌}
-use Rattle.boundary.proofs.Put.{three-stored, put-none}
+use Rattle.boundary.proofs.Put.{three_stored, put_none}
 use borrow.Author.Rules.{rules}
 use Rattle.boundary.proofs.put_place.Statement.{statement}
 use Rattle.boundary.proofs.put_place.Tie as tie
@@ -25,10 +25,10 @@ returns : tie.Need-returns
 returns c =
     let a = c.before.args in let f = c.before.ranges in let out = a.out.now in
     (λ i. set (set (set out 0 (back refl f.a i)) 1 (back refl f.b i)) 2 (back refl f.c i))
-    ∙ three-stored a.a a.b a.c out c.if1.true
+    ∙ three_stored a.a a.b a.c out c.if1.true
 
 returns-2 : tie.Need-returns-2
-returns-2 c = let a = c.before.args in put-none (a.a ∷ a.b ∷ a.c ∷ []) a.out.now c.if1.false
+returns-2 c = let a = c.before.args in put_none (a.a ∷ a.b ∷ a.c ∷ []) a.out.now c.if1.false
 
 pub put-place-spec : {M : Type 1} → statement M
 put-place-spec =

@@ -2,7 +2,7 @@
 use native.Mathlib.Omega.{arith}
 use lib.ListN.{length-set}
 use mathlib.Core.List.{[], ◌∷◌}
-use Rattle.boundary.proofs.Put.{three-stored, put-none}
+use Rattle.boundary.proofs.Put.{three_stored, put_none}
 use borrow.Author.Rules.{rules}
 use Rattle.boundary.proofs.put_three.Statement.{statement}
 use Rattle.boundary.proofs.put_three.Tie as tie
@@ -20,10 +20,10 @@ same_length : tie.Need-same-length
 same_length c = search rules
 
 returns : tie.Need-returns
-returns c = let a = c.before.args in three-stored a.a a.b a.c a.out.now c.if1.true
+returns c = let a = c.before.args in three_stored a.a a.b a.c a.out.now c.if1.true
 
 returns-2 : tie.Need-returns-2
-returns-2 c = let a = c.before.args in put-none (a.a ∷ a.b ∷ a.c ∷ []) a.out.now c.if1.false
+returns-2 c = let a = c.before.args in put_none (a.a ∷ a.b ∷ a.c ∷ []) a.out.now c.if1.false
 
 pub put-three-spec : {M : Type 1} → statement M
 put-three-spec =

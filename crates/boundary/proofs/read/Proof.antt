@@ -4,7 +4,7 @@ use mathlib.Core.List.{[], ◌∷◌}
 use Prim.Native.Nat.{ℕ}
 use Rattle.sheet.specs.Answers.{told}
 use Rattle.boundary.specs.Written.{put, unsigned}
-use Rattle.boundary.proofs.Tell.{done-written, kept-written}
+use Rattle.boundary.proofs.Tell.{done_written, kept_written}
 use borrow.Author.Rules.{rules}
 use Rattle.boundary.proofs.read.Statement.{statement}
 use Rattle.boundary.proofs.read.Tie as tie
@@ -40,14 +40,14 @@ returns : tie.Need-returns
 returns c =
     let k = c.before.before.before.before.before.before in
     let g = k.kind.given.0 in let a = k.before.before in
-    done-written unsigned _ _ (ap told (sym k.kind.given.1) ∙ a.read_by_lem.ensures) _ _
+    done_written unsigned _ _ (ap told (sym k.kind.given.1) ∙ a.read_by_lem.ensures) _ _
     (c.before.before.put_three.ensures
     ∙ ap (λ (n : ℕ). put (n ∷ g.1.0 ∷ g.1.1.0 ∷ []) a.before.before.before.args.out.now) c.before.before.before.kind-number.ensures)
 
 returns-2 : tie.Need-returns-2
 returns-2 c =
     let r = c.before.before in
-    kept-written unsigned _ r.r.given.0.0 (ap told (sym r.r.given.1) ∙ r.before.before.read_by_lem.ensures) _ c.number_of_lem.ensures _
+    kept_written unsigned _ r.r.given.0.0 (ap told (sym r.r.given.1) ∙ r.before.before.read_by_lem.ensures) _ c.number_of_lem.ensures _
 
 pub read_spec : {M : Type 1} → statement M
 read_spec =

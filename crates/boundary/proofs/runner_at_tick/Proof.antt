@@ -1,6 +1,6 @@
 -- `boundary::runner_at_tick` meets its contract: the runner is told, and telling writes it.
 use Rattle.boundary.specs.Written.{unsigned}
-use Rattle.boundary.proofs.Tell.{tells-on}
+use Rattle.boundary.proofs.Tell.{tells_on}
 use borrow.Author.Rules.{rules}
 use Rattle.boundary.proofs.runner_at_tick.Statement.{statement}
 use Rattle.boundary.proofs.runner_at_tick.Tie as tie
@@ -17,7 +17,7 @@ same_length c = search rules
 returns : tie.Need-returns
 returns c =
     let t = c.before.before in let p = t.before.before in
-    tells-on unsigned p.before.before.before.args.out.now t.tell-runner.ensures p.runner-at-tick-by.ensures
+    tells_on unsigned p.before.before.before.args.out.now t.tell-runner.ensures p.runner-at-tick-by.ensures
 
 pub runner-at-tick-spec : {M : Type 1} → statement M
 runner-at-tick-spec =

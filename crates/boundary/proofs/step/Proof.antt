@@ -1,9 +1,9 @@
 -- `boundary::step` meets its contract: a slice with three numbers lends a runner, and a shorter one none; telling writes the answer.
 use mathlib.Core.Path.{◌∙◌}
-use Rattle.runner.specs.Steps.{steppedBy}
+use Rattle.runner.specs.Steps.{stepped_by}
 use Rattle.boundary.specs.Written.{unsigned}
-use Rattle.boundary.proofs.Tell.{tells-on}
-use Rattle.boundary.proofs.Lent.{runner-lent, none_lent}
+use Rattle.boundary.proofs.Tell.{tells_on}
+use Rattle.boundary.proofs.Lent.{runner_lent, none_lent}
 use borrow.Author.Rules.{rules}
 use Rattle.boundary.proofs.step.Statement.{statement}
 use Rattle.boundary.proofs.step.Tie as tie
@@ -21,7 +21,7 @@ returns : tie.Need-returns
 returns c =
     let t = c.before.before in let s = t.before.before.before.before.before.before.args in
     let short = t.before.before.before.if1.true in
-    tells-on unsigned s.lent.now t.tell-runner.ensures (t.before.before.no-runner.ensures ∙ none_lent s.limit (steppedBy s.limit) s.sheet.now s.lent.now short)
+    tells_on unsigned s.lent.now t.tell-runner.ensures (t.before.before.no-runner.ensures ∙ none_lent s.limit (stepped_by s.limit) s.sheet.now s.lent.now short)
 
 slice-read-leg : tie.Need-slice-read-leg
 slice-read-leg c = search rules
@@ -45,7 +45,7 @@ returns-2 : tie.Need-returns-2
 returns-2 c =
     let t = c.before.before in let s = t.before.before.before.before.before.before.before.before.before.args in
     let room = t.before.before.before.before.before.before.if1.false in
-    tells-on unsigned s.lent.now t.tell-runner2.ensures (t.before.before.stepped_by.ensures ∙ runner-lent s.limit (steppedBy s.limit) s.sheet.now s.lent.now room)
+    tells_on unsigned s.lent.now t.tell-runner2.ensures (t.before.before.stepped_by.ensures ∙ runner_lent s.limit (stepped_by s.limit) s.sheet.now s.lent.now room)
 
 pub step_spec : {M : Type 1} → statement M
 step_spec =

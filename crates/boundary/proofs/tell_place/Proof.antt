@@ -5,10 +5,10 @@ use lib.IntN.{ℤ}
 use lib.ListN.{length}
 use Rattle.integers.proofs.Machine.{back}
 use Rattle.answers.specs.declared.Outcome.{Outcome}
-use Rattle.place.specs.Places.{toldBy, toldPlaced}
+use Rattle.place.specs.Places.{told_by, told_placed}
 use Rattle.boundary.specs.Written.{put, signed}
-use Rattle.boundary.proofs.Put.{three-elements}
-use Rattle.boundary.proofs.Tell.{done-written, kept-written}
+use Rattle.boundary.proofs.Put.{three_elements}
+use Rattle.boundary.proofs.Tell.{done_written, kept_written}
 use borrow.Author.Rules.{rules}
 use Rattle.boundary.proofs.tell_place.Statement.{statement}
 use Rattle.boundary.proofs.tell_place.Tie as tie
@@ -48,15 +48,15 @@ returns c =
     let north = back refl (record { sfits = first.put-place-arg2.given }) in
     let east = back refl (record { sfits = second.put-place-arg3.given }) in
     let up = back refl (record { sfits = c.before.before.put-place-arg4.given }) in
-    done-written signed (toldPlaced a) a.place.at (ap (λ (x : Outcome). toldBy x a.place.at) (sym o.enum_told.given.1)) _ _
+    done_written signed (told_placed a) a.place.at (ap (λ (x : Outcome). told_by x a.place.at) (sym o.enum_told.given.1)) _ _
     (c.before.put-place.ensures
     ∙ (λ i. put (north i ∷ east i ∷ up i ∷ []) s.args.out.now)
-    ∙ ap (λ (l : List ℤ). put l s.args.out.now) (three-elements a.place.at (three-long s)))
+    ∙ ap (λ (l : List ℤ). put l s.args.out.now) (three_elements a.place.at (three-long s)))
 
 returns-2 : tie.Need-returns-2
 returns-2 c =
     let o = c.before.before in let a = o.before.before.before.before.args.answer in
-    kept-written signed (toldPlaced a) o.outcome.given.0.0 (ap (λ (x : Outcome). toldBy x a.place.at) (sym o.outcome.given.1)) _ c.number_of_lem.ensures _
+    kept_written signed (told_placed a) o.outcome.given.0.0 (ap (λ (x : Outcome). told_by x a.place.at) (sym o.outcome.given.1)) _ c.number_of_lem.ensures _
 
 pub tell-place-spec : {M : Type 1} → statement M
 tell-place-spec =

@@ -2,8 +2,8 @@
 use mathlib.Core.Path.{◌∙◌}
 use Rattle.runner.specs.Backs.{backed}
 use Rattle.boundary.specs.Written.{unsigned}
-use Rattle.boundary.proofs.Tell.{tells-on}
-use Rattle.boundary.proofs.Lent.{runner-lent, none_lent}
+use Rattle.boundary.proofs.Tell.{tells_on}
+use Rattle.boundary.proofs.Lent.{runner_lent, none_lent}
 use borrow.Author.Rules.{rules}
 use Rattle.exports.proofs.station_back.Statement.{statement}
 use Rattle.exports.proofs.station_back.Tie as tie
@@ -21,7 +21,7 @@ returns : tie.Need-returns
 returns c =
     let t = c.before.before in let s = t.before.before.before.before.before.before.args in
     let short = t.before.before.before.if1.true in
-    tells-on unsigned s.lent.now t.tell-runner.ensures (t.before.before.no-runner.ensures ∙ none_lent _ backed s.sheet.now s.lent.now short)
+    tells_on unsigned s.lent.now t.tell-runner.ensures (t.before.before.no-runner.ensures ∙ none_lent _ backed s.sheet.now s.lent.now short)
 
 slice-read-leg : tie.Need-slice-read-leg
 slice-read-leg c = search rules
@@ -45,7 +45,7 @@ returns-2 : tie.Need-returns-2
 returns-2 c =
     let t = c.before.before in let s = t.before.before.before.before.before.before.before.before.before.args in
     let room = t.before.before.before.before.before.before.if1.false in
-    tells-on unsigned s.lent.now t.tell-runner2.ensures (t.before.before.backed.ensures ∙ runner-lent _ backed s.sheet.now s.lent.now room)
+    tells_on unsigned s.lent.now t.tell-runner2.ensures (t.before.before.backed.ensures ∙ runner_lent _ backed s.sheet.now s.lent.now room)
 
 pub station-back-spec : {M : Type 1} → statement M
 station-back-spec =

@@ -1,6 +1,6 @@
 -- `exports::station_join` meets its contract: the two sheets are joined, and the joined one's length told.
 use Rattle.boundary.specs.Written.{unsigned}
-use Rattle.boundary.proofs.Tell.{tells-on}
+use Rattle.boundary.proofs.Tell.{tells_on}
 use borrow.Author.Rules.{rules}
 use Rattle.exports.proofs.station_join.Statement.{statement}
 use Rattle.exports.proofs.station_join.Tie as tie
@@ -20,7 +20,7 @@ same-length-2 c = search rules
 returns : tie.Need-returns
 returns c =
     let t = c.before.before in let w = t.before.before.before.before in let s = w.before.before.before.before.before.before in
-    let told = tells-on unsigned s.args.out.now t.tell-written.ensures w.join.ensures.0 in
+    let told = tells_on unsigned s.args.out.now t.tell-written.ensures w.join.ensures.0 in
     (told.0, (w.join.ensures.1, told.1))
 
 pub station-join-spec : {M : Type 1} → statement M

@@ -3,7 +3,7 @@ use mathlib.Core.Path.{ap, ◌∙◌}
 use mathlib.Core.List.{List}
 use Prim.Native.Nat.{ℕ}
 use Rattle.boundary.specs.Written.{put, signed}
-use Rattle.boundary.proofs.Tell.{tells-on}
+use Rattle.boundary.proofs.Tell.{tells_on}
 use borrow.Author.Rules.{rules}
 use Rattle.exports.proofs.station_round.Statement.{statement}
 use Rattle.exports.proofs.station_round.Tie as tie
@@ -31,7 +31,7 @@ returns c =
     let p = c.before in let t = p.before.before.before.before.before in let w = t.before.before.before.before in
     let a = w.before.before.before.before.before.args in
     let made = w.round-numbers.ensures in
-    let told = tells-on signed a.place.now p.tell-place.ensures made.0 in
+    let told = tells_on signed a.place.now p.tell-place.ensures made.0 in
     (told.0, (made.1.1.1, (told.1, t.tell-turn.ensures ∙ ap (λ (turn : List ℕ). put turn a.next.now) made.1.1.0)))
 
 pub station-round-spec : {M : Type 1} → statement M

@@ -3,9 +3,9 @@ use mathlib.Core.Path.{refl, ap, ◌∙◌}
 use borrow.Author.Rules.{rules}
 use lib.ListN.{length}
 use Rattle.integers.proofs.Machine.{back}
-use Rattle.strokes.specs.Strokes.{strokesAnswer, drawnInto}
+use Rattle.strokes.specs.Strokes.{strokes_answer, drawn_into}
 use Rattle.boundary.specs.Written.{unsigned}
-use Rattle.boundary.proofs.Tell.{tells-on}
+use Rattle.boundary.proofs.Tell.{tells_on}
 use Rattle.exports.proofs.station_strokes.Statement.{statement}
 use Rattle.exports.proofs.station_strokes.Tie as tie
 
@@ -27,8 +27,8 @@ returns c =
     let t = c.before.before in let w = t.before.before.before.before in let s = w.before.before.before.before.before in
     let sheet = s.args.sheet.now in let list = s.args.list.now in let ends = s.args.ends.now in
     let same = back refl s.ranges.tolerance in
-    let told = tells-on unsigned s.args.out.now t.tell-strokes.ensures (w.strokes.ensures.0 ∙ ap (λ z. strokesAnswer sheet list z (length ends)) same) in
-    (told.0, (w.strokes.ensures.1 ∙ ap (λ z. drawnInto sheet list z ends) same, told.1))
+    let told = tells_on unsigned s.args.out.now t.tell-strokes.ensures (w.strokes.ensures.0 ∙ ap (λ z. strokes_answer sheet list z (length ends)) same) in
+    (told.0, (w.strokes.ensures.1 ∙ ap (λ z. drawn_into sheet list z ends) same, told.1))
 
 pub station-strokes-spec : {M : Type 1} → statement M
 station-strokes-spec =

@@ -1,8 +1,8 @@
 -- `exports::tell_written` meets its contract: one number is written, or a refusal's number is given.
 use mathlib.Core.Path.{sym, ap}
-use Rattle.lists.specs.Answer.{toldWritten}
+use Rattle.lists.specs.Answer.{told_written}
 use Rattle.boundary.specs.Written.{unsigned}
-use Rattle.boundary.proofs.Tell.{done-written, kept-written}
+use Rattle.boundary.proofs.Tell.{done_written, kept_written}
 use borrow.Author.Rules.{rules}
 use Rattle.exports.proofs.tell_written.Statement.{statement}
 use Rattle.exports.proofs.tell_written.Tie as tie
@@ -25,11 +25,11 @@ same_length c = search rules
 returns : tie.Need-returns
 returns c =
     let a = c.before.before.before.before.before.answer in
-    done-written unsigned _ _ (ap toldWritten (sym a.given.1)) _ _ c.before.before.put_one.ensures
+    done_written unsigned _ _ (ap told_written (sym a.given.1)) _ _ c.before.before.put_one.ensures
 
 returns-2 : tie.Need-returns-2
 returns-2 c =
-    let a = c.before.before.answer2 in kept-written unsigned _ a.given.0.0 (ap toldWritten (sym a.given.1)) _ c.number_of_lem.ensures _
+    let a = c.before.before.answer2 in kept_written unsigned _ a.given.0.0 (ap told_written (sym a.given.1)) _ c.number_of_lem.ensures _
 
 pub tell-written-spec : {M : Type 1} → statement M
 tell-written-spec =

@@ -48,12 +48,12 @@ use denote.Exit.{yes}
 use Rattle.runner.specs.declared.Runner.{Runner}
 use Rattle.runner.specs.contracts.Runner as T
 use Rattle.runner.proofs.Runner.TheLaws as T'
-use Rattle.fleet.specs.Round.{seatOf}
+use Rattle.fleet.specs.Round.{seat_of}
 use Rattle.seat.specs.Serving.{nobody}
 use Rattle.seat.specs.declared.RoundAnswer.{RoundAnswer}
 use Rattle.seat.specs.declared.SeatOutcome.{SeatOutcome}
 use Rattle.seat.proofs.Chain.{Served}
-use Rattle.fleet.proofs.Lent.{Away, Promised, away-promised, served-promised, place-fits}
+use Rattle.fleet.proofs.Lent.{Away, Promised, away_promised, served_promised, place_fits}
 use Rattle.seat.specs.contracts.RoundAnswer as B
 use Rattle.seat.proofs.RoundAnswer.TheLaws as B'
 use Rattle.seat.specs.contracts.SeatOutcome as S
@@ -128,7 +128,7 @@ module _ {M : Type 1} {𝓤 : Ura M} (𝓛 : Logic 𝓤) (at_mem : Memory → SP
   Fleet zs = (MutSlice (named 2) κ'' T.the_row).own_val (x zs) (v₃ ∷ [])
 
   abbrev seat : Runner
-  seat = seatOf ys t
+  seat = seat_of ys t
 
   abbrev Post : Val → SProp 𝓤
   Post = (walk_of 𝓛 f.ended stayed (f.clauses 𝓛 at_mem run)).post (((κ, (κ', (κ'', tt))), (q, (q', (q'', tt))), bounds, a, vals), tt)
@@ -202,11 +202,11 @@ module _ {M : Type 1} {𝓤 : Ura M} (𝓛 : Logic 𝓤) (at_mem : Memory → SP
         returns_within ! Post refl (look ! 30 refl) $ forget ! 14 refl $ forget ! 18 refl $ forget ! 20 refl $ forget ! 22 refl $ forget ! 24 refl $ forget ! 26 refl $ forget ! 28 refl $ forget ! 30 refl $
         move ! (30 ∷ 31 ∷ []) $ free1 ! $ move ! (28 ∷ 29 ∷ []) $ free1 ! $ move ! (26 ∷ 27 ∷ []) $ free1 ! $ move ! (24 ∷ 25 ∷ []) $ free1 ! $ move ! (22 ∷ 23 ∷ []) $ free1 ! $ move ! (20 ∷ 21 ∷ []) $ free1 ! $ move ! (18 ∷ 19 ∷ []) $ free1 ! $
         move ! (16 ∷ 17 ∷ []) $ free1 ! $ move ! (14 ∷ 15 ∷ []) $ free1 ! $ move ! (12 ∷ 13 ∷ []) $ free1 ! $ move ! (10 ∷ 11 ∷ []) $ free1 ! $ move ! (8 ∷ 9 ∷ []) $ free1 ! $ move ! (6 ∷ 7 ∷ []) $ free1 ! $ free0 ! $
-        keep ! (5 ∷ 4 ∷ 1 ∷ 0 ∷ 3 ∷ 2 ∷ []) $ by ! (exits r z ys refl (away-promised s.now list.now ys t (leb→le k t none) r e) is))))))
+        keep ! (5 ∷ 4 ∷ 1 ∷ 0 ∷ 3 ∷ 2 ∷ []) $ by ! (exits r z ys refl (away_promised s.now list.now ys t (leb→le k t none) r e) is))))))
         -- a seat
         (λ some-seat.
         let within : t < k = nleb→lt k t some-seat in
-        let spot-fits : t * (mem T.the_row).size < 2 ^ 64 = place-fits (mem T.the_row).size t k within room.1 in
+        let spot-fits : t * (mem T.the_row).size < 2 ^ 64 = place_fits (mem T.the_row).size t k within room.1 in
         let En : Env 𝓤 H = at-blocks 𝓤 H (code.function).locals (l₀ ∷ l₁ ∷ l₂ ∷ l₃ ∷ l₄ ∷ l₅ ∷ l₆ ∷ l₇ ∷ l₈ ∷ l₉ ∷ l₁₀ ∷ l₁₁ ∷ l₁₂ ∷ []) in
         skips ! $ exec ! C Λ En t-5 (at_ret En Post) $
         assigns ! (bin ! (load ! (from ! (stop !)) (look ! 18 refl)) (lit ! tt) (record { fits = spot-fits })) (from ! (stop !)) (init ! 12 refl (tt, record { fits = spot-fits })) $
@@ -245,7 +245,7 @@ module _ {M : Type 1} {𝓤 : Ura M} (𝓛 : Logic 𝓤) (at_mem : Memory → SP
         move ! (30 ∷ 31 ∷ []) $ free1 ! $ move ! (28 ∷ 29 ∷ []) $ free1 ! $ move ! (26 ∷ 27 ∷ []) $ free1 ! $ move ! (24 ∷ 25 ∷ []) $ free1 ! $ move ! (22 ∷ 23 ∷ []) $ free1 ! $ move ! (20 ∷ 21 ∷ []) $ free1 ! $ move ! (18 ∷ 19 ∷ []) $ free1 ! $
         move ! (16 ∷ 17 ∷ []) $ free1 ! $ move ! (14 ∷ 15 ∷ []) $ free1 ! $ move ! (12 ∷ 13 ∷ []) $ free1 ! $ move ! (10 ∷ 11 ∷ []) $ free1 ! $ move ! (8 ∷ 9 ∷ []) $ free1 ! $ move ! (6 ∷ 7 ∷ []) $ free1 ! $ free0 ! $
         keep ! (2 ∷ 3 ∷ 1 ∷ 0 ∷ 5 ∷ 4 ∷ []) $
-        by ! (exits n.answer _ (set ys t n.at) (length-set ys t n.at) (served-promised s.now list.now ys t n e) (LL.owed S.the_type S'.the_laws n _ is).1.0))))))))))))))))))))
+        by ! (exits n.answer _ (set ys t n.at) (length-set ys t n.at) (served_promised s.now list.now ys t n e) (LL.owed S.the_type S'.the_laws n _ is).1.0))))))))))))))))))))
 
 module _ {M : Type 1} {𝓤 : Ura M} (𝓛 : Logic 𝓤) (at_mem : Memory → SProp 𝓤) (run : Routine → Fun 𝓤) where
   open 𝓛 use {H}

@@ -10,17 +10,17 @@ use lib.ListN.{drop, replicate}
 use Rattle.rounding.specs.Rounded.{rounded}
 use Rattle.systems.specs.Passes.{target, renewed, turn, sweep, pass, passes}
 use Rattle.sheet.specs.Bytes.{be16, be32, signed32}
-use Rattle.spline.specs.Spline.{next, prev, stepAfter, stepBefore, heldStartRow, heldEndRow, along, row_of, rows_by}
+use Rattle.spline.specs.Spline.{next, prev, step_after, step_before, held_start_row, held_end_row, along, row_of, rows_by}
 use Rattle.layout.specs.Course.{course}
-use Rattle.layout.specs.Layout.{allBends}
-use Rattle.layout.proofs.Parts.{three-parts}
+use Rattle.layout.specs.Layout.{all_bends}
+use Rattle.layout.proofs.Parts.{three_parts}
 use Rattle.layout.proofs.lay_axes.Statement.{statement}
 use Rattle.layout.proofs.lay_axes.Tie as tie
 
 -- tried at W5 on the east axis, on a sheet that is cut after its last byte above 0: east stands from entry 2
-east-tried : allBends (replicate 4 0 ++ 1 ∷ 1 ∷ 0 ∷ 2 ∷ 0 ∷ 4 ∷ replicate 19 0 ++ 16 ∷ [])
+east-tried : all_bends (replicate 4 0 ++ 1 ∷ 1 ∷ 0 ∷ 2 ∷ 0 ∷ 4 ∷ replicate 19 0 ++ 16 ∷ [])
     ≡ pos 0 ∷ pos 0 ∷ pos 65536 ∷ negsuc 65535 ∷ pos 0 ∷ pos 0 ∷ []
-unfolding rounded target renewed turn sweep pass passes be16 be32 signed32 next prev stepAfter stepBefore heldStartRow heldEndRow along row_of rows_by course allBends
+unfolding rounded target renewed turn sweep pass passes be16 be32 signed32 next prev step_after step_before held_start_row held_end_row along row_of rows_by course all_bends
 east-tried = refl
 
 mul-up : tie.Need-overflow-mul-up
@@ -81,10 +81,10 @@ same_length : tie.Need-same-length
 same_length c = search rules
 
 returns : tie.Need-returns
-unfolding allBends
+unfolding all_bends
 returns c =
     let a = c.before in let b = a.before.before.before in let d = b.before.before.before in let s = d.before.before.before in
-    three-parts s.args.list.now s.args.n d.lay-axis.new.1.1.1.1.0 b.lay-axis2.new.1.1.1.1.0 a.lay-axis3.new.1.1.1.1.0
+    three_parts s.args.list.now s.args.n d.lay-axis.new.1.1.1.1.0 b.lay-axis2.new.1.1.1.1.0 a.lay-axis3.new.1.1.1.1.0
     (d.lay-axis.auto.1.1.1.1.0 ∙ (lay-axis-requires d.before d.lay-axis.lifetimes).1)
     (b.lay-axis2.auto.1.1.1.1.0 ∙ (lay-axis-requires-2 b.before b.lay-axis2.lifetimes).1)
     ∙ (λ i. (d.lay-axis.ensures i ++ b.lay-axis2.ensures i ++ a.lay-axis3.ensures i) ++ drop (3 * s.args.n) s.args.list.now)

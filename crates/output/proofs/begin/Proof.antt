@@ -8,13 +8,13 @@ use lib.Seq.{take_at}
 use borrow.Author.Rules.{rules}
 use Rattle.sheet.specs.declared.Refusal.TheVariants.{Torn}
 use Rattle.sheet.specs.declared.Reading.TheVariants as R
-use Rattle.sheet.proofs.Laws.{accepted-bounds}
-use Rattle.sheet.proofs.Told.{told-injective}
-use Rattle.layout.specs.Layout.{laidOut}
+use Rattle.sheet.proofs.Laws.{accepted_bounds}
+use Rattle.sheet.proofs.Told.{told_injective}
+use Rattle.layout.specs.Layout.{laid_out}
 use Rattle.runner.proofs.Entry.{Course, course}
-use Rattle.words.specs.Words.{refusalLine}
+use Rattle.words.specs.Words.{refusal_line}
 use Rattle.output.specs.Output.{header}
-use Rattle.output.proofs.Begun.{torn-output, read-output, refused-begun, header-begun}
+use Rattle.output.proofs.Begun.{torn_output, read_output, refused_begun, header_begun}
 use Rattle.output.proofs.begin.Statement.{statement}
 use Rattle.output.proofs.begin.Tie as tie
 
@@ -26,8 +26,8 @@ module _ (c : tie.After-known-told) where
   told-course : Course input c.before.reading.given.0.0 c.before.reading.given.0.1.0 c.before.reading.given.0.1.1.0
   told-course = course input _ c.before.before.before.read.ensures _ _ _ c.before.reading.given.1
 
-  few-ticks : c.before.reading.given.0.1.1.0 ≤ 131_072
-  few-ticks = omega (arith, told-course.is-ticks, (accepted-bounds input (told-course.is_read _ refl).accepted).few-ticks)
+  few_ticks : c.before.reading.given.0.1.1.0 ≤ 131_072
+  few_ticks = omega (arith, told-course.is_ticks, (accepted_bounds input (told-course.is_read _ refl).accepted).few_ticks)
 
 refused-requires : tie.Need-refused-requires
 refused-requires c κs = search rules
@@ -38,8 +38,8 @@ same_length c = search rules
 returns : tie.Need-returns
 returns c =
     let told = c.before.before in let start = told.before.before.before.before.before in let input = start.args.input.now in
-    refused-begun input start.args.list.now told.refused.new.0 told.refused.result.bytes Torn told.refused.result.next told.refused.result.end
-    told.refused.ensures (torn-output input (omega (arith, told.before.before.if1.true)))
+    refused_begun input start.args.list.now told.refused.new.0 told.refused.result.bytes Torn told.refused.result.next told.refused.result.end
+    told.refused.ensures (torn_output input (omega (arith, told.before.before.if1.true)))
 
 read-requires : tie.Need-read-requires
 read-requires c κs = search rules
@@ -63,10 +63,10 @@ returns-2 : tie.Need-returns-2
 returns-2 c =
     let told = c.before.before in let carried = told.before in let refusal = carried.before.before in let read = refusal.before.before in
     let start = read.before.before.before.before in let input = start.args.input.now in let q = refusal.enum_told.given.0.0 in
-    refused-begun input start.args.list.now told.refused2.new.0 told.refused2.result.bytes carried.refusal-of.result
+    refused_begun input start.args.list.now told.refused2.new.0 told.refused2.result.bytes carried.refusal-of.result
     told.refused2.result.next told.refused2.result.end told.refused2.ensures
-    (ap refusalLine (carried.refusal-of.ensures q refusal.enum_told.given.1)
-    ∙ read-output input (omega (arith, read.before.if1.false)) (R.Refused q) (sym refusal.enum_told.given.1 ∙ told-injective _ _ read.read.ensures))
+    (ap refusal_line (carried.refusal-of.ensures q refusal.enum_told.given.1)
+    ∙ read_output input (omega (arith, read.before.if1.false)) (R.Refused q) (sym refusal.enum_told.given.1 ∙ told_injective _ _ read.read.ensures))
 
 lay-out-requires : tie.Need-lay-out-requires
 lay-out-requires c κs = search rules
@@ -78,7 +78,7 @@ copy-requires : tie.Need-copy-requires
 copy-requires c κs = search rules
 
 add-t22 : tie.Need-overflow-add-t22
-add-t22 c = record { fits = omega (arith, few-ticks c.before.before.before.before.before.before.before.before) }
+add-t22 c = record { fits = omega (arith, few_ticks c.before.before.before.before.before.before.before.before) }
 
 -- the header is copied whole
 whole-header : (c : tie.After-copy) → c.copy.result ≡ 19
@@ -98,8 +98,8 @@ returns-3 c =
     let copied = c.before.before in let laid = copied.before.before.before.before in let known = laid.before.before in
     let k = known.before.reading.given.0.0 in let n = known.before.reading.given.0.1.0 in let p = known.before.reading.given.0.1.1.0 in
     let read = known.before.before.before in let start = read.before.before.before.before in let input = start.args.input.now in
-    header-begun input laid.lay-out.new.1.0 copied.copy.new.1.0 copied.copy.result k n p (omega (arith, read.before.if1.false)) (told-course known).read
-    (laid.lay-out.ensures.1 ∙ ap (laidOut input) start.requires.0)
+    header_begun input laid.lay-out.new.1.0 copied.copy.new.1.0 copied.copy.result k n p (omega (arith, read.before.if1.false)) (told-course known).read
+    (laid.lay-out.ensures.1 ∙ ap (laid_out input) start.requires.0)
     (omega (arith, whole-header copied, same-length-4 c, start.requires.1))
     (header-put copied) (omega arith)
 

@@ -13,7 +13,7 @@ use Rattle.systems.specs.Passes.{at}
 use Rattle.lines.specs.Lines.{line}
 use Rattle.output.specs.Output.{line_at, lines_from}
 use Rattle.output.specs.Pieces.{PieceOf}
-use Rattle.output.proofs.Lines.{line-moved, line-answered, not-refused}
+use Rattle.output.proofs.Lines.{line_moved, line_answered, not_refused}
 use Rattle.output.proofs.put_lines.Statement.{statement}
 use Rattle.output.proofs.put_lines.Tie as tie
 
@@ -52,7 +52,7 @@ returns-2 : tie.Need-returns-2 invariant-loop decreases-loop
 returns-2 c =
     let placed = c.before.before in let loop = placed.before.before.before in let start = loop.before.before.before in
     absurd
-    (not-refused start.args.s.now start.args.list.now loop.loop.tick placed.place-at-tick.result.place.at c.enum-told2.given.0.0
+    (not_refused start.args.s.now start.args.list.now loop.loop.tick placed.place-at-tick.result.place.at c.enum-told2.given.0.0
     c.enum-told2.given.1 placed.place-at-tick.ensures.0 (start.requires.1 loop.loop.tick (omega arith)))
 
 element-copy-out-put-line : tie.Need-element-copy-out-put-line invariant-loop decreases-loop
@@ -87,7 +87,7 @@ line-put : (c : tie.After-put-line invariant-loop decreases-loop) →
 line-put c =
     let answered = c.before.before.before.before.before.before in let placed = answered.before.before in
     let loop = placed.before.before.before in let a = loop.before.before.before.args in
-    line-answered loop.loop.tick placed.place-at-tick.result.place.at
+    line_answered loop.loop.tick placed.place-at-tick.result.place.at
     (record { sfits = c.before.before.before.put-line-arg2.given })
     (record { sfits = c.before.before.put-line-arg3.given })
     (record { sfits = c.before.put-line-arg4.given })
@@ -101,7 +101,7 @@ loop-again c =
       record {
         room = omega (arith, put.put-line.ensures.0, put.put-line.auto.0);
         in_order = omega arith;
-        text = line-moved a.s.now a.list.now loop.loop.tick a.end (take loop.loop.at loop.loop.out) (put-text put) (omega arith) i.1.text put.put-line.ensures.1 (line-put put);
+        text = line_moved a.s.now a.list.now loop.loop.tick a.end (take loop.loop.at loop.loop.out) (put-text put) (omega arith) i.1.text put.put-line.ensures.1 (line-put put);
       },
     )
 

@@ -11,7 +11,7 @@ use lib.Signed.{mag, lt_z, non_neg, lt_z_no, yes_non_neg, nat_abs-le}
 use mir.Syntax.{w64}
 use mir.Val.{to_z, of_z}
 use Rattle.integers.proofs.Order.{sub_cases}
-use Rattle.integers.proofs.Machine.{back, fits-back}
+use Rattle.integers.proofs.Machine.{back, fits_back}
 use Rattle.printing.proofs.magnitude.Statement.{statement}
 use Rattle.printing.proofs.magnitude.Tie as tie
 
@@ -46,7 +46,7 @@ module _ (c : tie.Then1) where
   seen = back made (record { sfits = bound s })
 
 sub-result : tie.Need-overflow-sub-result
-sub-result c = fits-back (made c) (record { sfits = bound (s c) })
+sub-result c = fits_back (made c) (record { sfits = bound (s c) })
 
 cast-result : tie.Need-overflow-cast-result
 cast-result c = rw (seen c) (tt, record { fits = omega (arith, bound (s c)) })

@@ -6,10 +6,10 @@ use lib.Signed.{quot_z, rem_z, mag_rem}
 use mir.Syntax.{w64}
 use mir.Val.{SFits}
 use mir.ValLaws.{sfits_le}
-use Rattle.integers.proofs.Machine.{back, fits-back}
+use Rattle.integers.proofs.Machine.{back, fits_back}
 use Rattle.rounding.specs.Rounded.{rounded}
 use Rattle.integers.proofs.Made.{read, passed}
-use Rattle.rounding.proofs.Remainder.{up, divisor-bits, fits-quot, fits-minus, step-rounds, sum-rounds, rounded-fits}
+use Rattle.rounding.proofs.Remainder.{up, divisor_bits, fits_quot, fits_minus, step_rounds, sum_rounds, rounded_fits}
 use Rattle.rounding.proofs.rounded.Statement.{statement}
 use Rattle.rounding.proofs.rounded.Tie as tie
 
@@ -47,7 +47,7 @@ module _ (s : tie.Start) where
   quot-made = λ i. quot_z (en i) (ed i)
 
   quot_fits : SFits w64 (quot_z n d)
-  quot_fits = fits-quot n d s.pre s.fits.n
+  quot_fits = fits_quot n d s.pre s.fits.n
 
   rem-fits : SFits w64 (rem_z n d)
   rem-fits = sfits_le (mag_rem n d) s.fits.n
@@ -56,13 +56,13 @@ module _ (s : tie.Start) where
   er = back (λ i. rem_z (en i) (ed i)) rem-fits
 
   minus-fits : SFits w64 (pos 0 -ℤ rem_z n d)
-  minus-fits = fits-minus n d s.pre s.fits.d
+  minus-fits = fits_minus n d s.pre s.fits.d
 
   minus-made : pos 0 -ℤ read (rem_z (read n) (read d)) ≡ pos 0 -ℤ rem_z n d
   minus-made = λ i. pos 0 -ℤ er i
 
 div-q : tie.Need-nonzero-div-q
-div-q c = (divisor-bits (n c) (d c) c.requires, fits-back (quot-made c) (quot_fits c))
+div-q c = (divisor_bits (n c) (d c) c.requires, fits_back (quot-made c) (quot_fits c))
 
 rem-r : tie.Need-nonzero-rem-r
 rem-r = div-q
@@ -71,7 +71,7 @@ goes-up-requires : tie.Need-goes-up-requires
 goes-up-requires c κs = search rules
 
 sub-goes-up : tie.Need-overflow-sub-goes-up
-sub-goes-up c = fits-back (minus-made c.before) (minus-fits c.before)
+sub-goes-up c = fits_back (minus-made c.before) (minus-fits c.before)
 
 goes-up-requires-2 : tie.Need-goes-up-requires-2
 goes-up-requires-2 c κs = search rules
@@ -90,22 +90,22 @@ module _ (c : tie.After-goes-up2) where
   step-made = read c.before.goes-up.result -ℤ read c.goes-up2.result
 
   step_is : step-made ≡ rounded (rem_z (n s) (d s)) (nat_abs (d s))
-  step_is = (λ i. first i -ℤ second i) ∙ step-rounds (n s) (d s) s.pre
+  step_is = (λ i. first i -ℤ second i) ∙ step_rounds (n s) (d s) s.pre
 
   step_fits : SFits w64 (rounded (rem_z (n s) (d s)) (nat_abs (d s)))
-  step_fits = rounded-fits (rem_z (n s) (d s)) (d s) s.pre (rem-fits s)
+  step_fits = rounded_fits (rem_z (n s) (d s)) (d s) s.pre (rem-fits s)
 
   sum_is : read (quot_z (read (n s)) (read (d s))) +ℤ read step-made ≡ rounded (n s) (nat_abs (d s))
-  sum_is = (λ i. back (quot-made s) (quot_fits s) i +ℤ back step_is step_fits i) ∙ sum-rounds (n s) (d s) s.pre
+  sum_is = (λ i. back (quot-made s) (quot_fits s) i +ℤ back step_is step_fits i) ∙ sum_rounds (n s) (d s) s.pre
 
   sum_fits : SFits w64 (rounded (n s) (nat_abs (d s)))
-  sum_fits = rounded-fits (n s) (d s) s.pre s.fits.n
+  sum_fits = rounded_fits (n s) (d s) s.pre s.fits.n
 
 sub-result : tie.Need-overflow-sub-result
-sub-result c = fits-back (step_is c) (step_fits c)
+sub-result c = fits_back (step_is c) (step_fits c)
 
 add-result : tie.Need-overflow-add-result
-add-result c = fits-back (sum_is c) (sum_fits c)
+add-result c = fits_back (sum_is c) (sum_fits c)
 
 returns : tie.Need-returns
 returns c = back (sum_is c) (sum_fits c)

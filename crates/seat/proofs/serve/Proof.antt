@@ -5,14 +5,14 @@ use mathlib.Core.List.{List}
 use lib.IntN.{ℤ}
 use lib.ListN.{length}
 use borrow.Author.Tests.{le-leb, lt-leb}
-use Rattle.sheet.proofs.Laws.{read-accepted}
+use Rattle.sheet.proofs.Laws.{read_accepted}
 use Rattle.sheet.specs.declared.Refusal.TheVariants.{Shelf, Seats, Turn}
 use Rattle.answers.proofs.Guards.{passed_on}
 use Rattle.layout.specs.Layout.{short}
 use Rattle.runner.proofs.Entry.{Course, course}
-use Rattle.place.proofs.Entry.{few-points, short-is}
+use Rattle.place.proofs.Entry.{few_points, short_is}
 use Rattle.seat.specs.declared.NextTurn.TheVariants.{Seat}
-use Rattle.seat.proofs.Chain.{Flown, shut_out, let-on}
+use Rattle.seat.proofs.Chain.{Flown, shut_out, let_on}
 use borrow.Author.Rules.{rules}
 use Rattle.seat.proofs.serve.Statement.{statement}
 use Rattle.seat.proofs.serve.Tie as tie
@@ -30,11 +30,11 @@ module _ (c : tie.After-known-told) where
 
 -- the test of 9 is the definition's
 is-short : (c : tie.After-is-short) (b : Bool) → c.is-short.result ≡ b → let a = (start c.before).args in short a.s.now (length a.list.now) ≡ b
-is-short c b e = short-is (told-course c.before) (list c.before) c.is-short.ensures b e
+is-short c b e = short_is (told-course c.before) (list c.before) c.is-short.ensures b e
 
 -- tried: 33 seats do not come past 19
-most-tried : (c : tie.Else2) → (start c.before.before.before).args.seats ≡ 33 → true ≡ false
-most-tried c k = rw k at c.if2.false
+most_tried : (c : tie.Else2) → (start c.before.before.before).args.seats ≡ 33 → true ≡ false
+most_tried c k = rw k at c.if2.false
 
 read-requires : tie.Need-read-requires
 read-requires c κs = search rules
@@ -58,7 +58,7 @@ returns c =
     (λ rest. passed_on _ g.s.now _ r.read.ensures _ _ _ t.enum_told.given.1 c.before.refusal-of.ensures) c.kept.ensures
 
 is-short-requires : tie.Need-is-short-requires
-is-short-requires c κs = few-points (told-course c)
+is-short-requires c κs = few_points (told-course c)
 
 kept-requires-2 : tie.Need-kept-requires-2
 kept-requires-2 c κs = search rules
@@ -92,13 +92,13 @@ next-turn-requires c κs = search rules
 
 fly-requires : tie.Need-fly-requires
 fly-requires c κs =
-    let e = c.before.before.before in let w = e.before in let k = w.before in let r = read-accepted _ _ _ _ _ (told-course k).read in
-    record { accepted = r.0; is-kind = r.1; is-points = r.2; room = is-short w _ e.if1.false }
+    let e = c.before.before.before in let w = e.before in let k = w.before in let r = read_accepted _ _ _ _ _ (told-course k).read in
+    record { accepted = r.0; is_kind = r.1; is_points = r.2; room = is-short w _ e.if1.false }
 
 returns-5 : tie.Need-returns-5
 returns-5 c =
     let n = c.before in let g = n.before in let f = g.before in let e = f.before in let w = e.before in let a = (start w.before).args in
-    let-on a.s.now a.list.now a.at c.fly.result a.seats a.turn
+    let_on a.s.now a.list.now a.at c.fly.result a.seats a.turn
     (λ rest. simp ((told-course w.before).read, is-short w _ e.if1.false, f.if2.false, lt-leb _ _ g.if3.false))
     (subst (λ m. Flown a.s.now a.list.now (Seat m) a.at c.fly.result) n.next-turn.ensures c.fly.ensures)
 

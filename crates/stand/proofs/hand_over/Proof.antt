@@ -7,7 +7,7 @@ use lib.ListN.{length}
 use lib.Seq.{length-take-le}
 use borrow.Author.Rules.{rules}
 use Rattle.output.specs.Output.{output}
-use Rattle.stand.proofs.Turns.{Going, part, handed-inside, nearer, going_on, all-handed}
+use Rattle.stand.proofs.Turns.{Going, part, handed_inside, nearer, going_on, all_handed}
 use Rattle.stand.proofs.hand_over.Statement.{statement}
 use Rattle.stand.proofs.hand_over.Tie as tie
 
@@ -52,7 +52,7 @@ hand-part-requires c κs = part c.before.before.before.loop.invariant
 returns : tie.Need-returns invariant-loop decreases-loop
 returns c =
     let handed = c.before in let loop = handed.before.before.before.before in
-    (handed-inside loop.loop.invariant handed.hand-part.result.failed handed.hand-part.result.bytes handed.hand-part.ensures, λ well. absurd (false≢true (sym well ∙ c.if2.true)))
+    (handed_inside loop.loop.invariant handed.hand-part.result.failed handed.hand-part.result.bytes handed.hand-part.ensures, λ well. absurd (false≢true (sym well ∙ c.if2.true)))
 
 slice-aggregate-put-lines : tie.Need-slice-aggregate-put-lines invariant-loop decreases-loop
 slice-aggregate-put-lines c = search rules
@@ -76,7 +76,7 @@ loop-again c =
     (search rules) put.put-lines.ensures.0 put.put-lines.ensures.1.0 put.put-lines.ensures.1.1
 
 returns-2 : tie.Need-returns-2 invariant-loop decreases-loop
-returns-2 c = let loop = c.before.before in (loop.loop.invariant.inside, λ _. all-handed loop.loop.invariant (omega (arith, c.if1.false)))
+returns-2 c = let loop = c.before.before in (loop.loop.invariant.inside, λ _. all_handed loop.loop.invariant (omega (arith, c.if1.false)))
 
 pub hand-over-spec : {M : Type 1} → statement M
 hand-over-spec =

@@ -2,7 +2,7 @@
 use mathlib.Core.Path.{refl}
 use native.Mathlib.Omega.{arith}
 use borrow.Author.Rules.{rules}
-use Rattle.output.proofs.Short.{output-short}
+use Rattle.output.proofs.Short.{output_short}
 use Rattle.stand.proofs.hand_part.Statement.{statement}
 use Rattle.stand.proofs.hand_part.Tie as tie
 
@@ -10,7 +10,7 @@ write-all-requires : tie.Need-write-all-requires
 write-all-requires c κs = search rules
 
 add-t7 : tie.Need-overflow-add-t7
-add-t7 c = let start = c.before.before.before.before in record { fits = omega (arith, start.requires.inside, output-short start.args.input.now) }
+add-t7 c = let start = c.before.before.before.before in record { fits = omega (arith, start.requires.inside, output_short start.args.input.now) }
 
 returns : tie.Need-returns
 returns c = refl

@@ -7,8 +7,8 @@ use borrow.Author.Tests.{leb-true, leb-false, not-true, not-false}
 use lib.IntN.{pos}
 use lib.ListN.{length}
 use Rattle.sheet.specs.declared.Refusal.TheVariants.{Ink}
-use Rattle.strokes.specs.Strokes.{strokeEnds}
-use Rattle.strokes.proofs.Answer.{refused-by, ink, ends-told, ends-left}
+use Rattle.strokes.specs.Strokes.{stroke_ends}
+use Rattle.strokes.proofs.Answer.{refused_by, ink, ends_told, ends_left}
 use Rattle.strokes.proofs.draw.Statement.{statement}
 use Rattle.strokes.proofs.draw.Tie as tie
 
@@ -24,12 +24,12 @@ module _ (c : tie.After-has-room) where
   list = start.args.ends.now
 
   abbrev ends : List ℕ
-  ends = strokeEnds start.args.s.now start.args.list.now start.args.tolerance
+  ends = stroke_ends start.args.s.now start.args.list.now start.args.tolerance
 
 returns : tie.Need-returns
 returns c =
     let k = c.before in let s = (start k).args in
-    refused-by Ink (ends k) (list k) (ink s.s.now s.list.now s.tolerance (list k)
+    refused_by Ink (ends k) (list k) (ink s.s.now s.list.now s.tolerance (list k)
     (leb-false (length (ends k)) (length (list k)) (sym k.has_room.ensures ∙ not-true k.has_room.result c.if1.true)))
 
 course-ends-requires : tie.Need-course-ends-requires
@@ -42,8 +42,8 @@ returns-2 : tie.Need-returns-2
 returns-2 c =
     let d = c.before.before.course-ends in let k = c.before.before.before.before.before in let s = (start k).args in
     let fits = leb-true (length (ends k)) (length (list k)) (sym k.has_room.ensures ∙ not-false k.has_room.result c.before.before.before.before.if1.false) in (
-      (λ i. record { number = 0; values = pos (d.ensures.0 i) ∷ [] }) ∙ ends-told s.s.now s.list.now s.tolerance (list k) fits,
-      d.ensures.1 ∙ ends-left s.s.now s.list.now s.tolerance (list k) fits,
+      (λ i. record { number = 0; values = pos (d.ensures.0 i) ∷ [] }) ∙ ends_told s.s.now s.list.now s.tolerance (list k) fits,
+      d.ensures.1 ∙ ends_left s.s.now s.list.now s.tolerance (list k) fits,
     )
 
 pub draw-spec : {M : Type 1} → statement M

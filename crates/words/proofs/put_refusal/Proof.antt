@@ -4,17 +4,17 @@ use contract.Lifetimes.{Lfts}
 use lib.ListN.{take, drop}
 use borrow.Author.Rules.{rules}
 use Rattle.integers.proofs.Tried.{Tried, tried}
-use Rattle.words.specs.Words.{refusalRows}
+use Rattle.words.specs.Words.{refusal_rows}
 use Rattle.words.proofs.put_refusal.Statement.{statement}
 use Rattle.words.proofs.put_refusal.Tie as tie
 
 -- tried at the line of 6 by itself, so that a wrong word is told by its bytes
 leg-tried : (c : tie.After-put-row-arg2) (κs : Lfts 2) → Tried
-unfolding refusalRows
+unfolding refusal_rows
 leg-tried c κs = tried (λ (need : tie.Need-put-row-requires). ap (λ l. take 14 (drop 95 l)) (need c κs).0) refl
 
 put-row-requires : tie.Need-put-row-requires
-unfolding refusalRows
+unfolding refusal_rows
 put-row-requires c κs = (refl, search rules)
 
 same_length : tie.Need-same-length

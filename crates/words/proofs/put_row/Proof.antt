@@ -7,8 +7,8 @@ use lib.ListN.{length, take, drop}
 use lib.Seq.{take_at, take-length}
 use borrow.Author.Rules.{rules}
 use Rattle.sheet.specs.declared.Refusal.{Refusal}
-use Rattle.words.specs.Words.{refusalLine}
-use Rattle.words.proofs.Rows.{start, feed, refusal-short, counted, line-ends, line-said}
+use Rattle.words.specs.Words.{refusal_line}
+use Rattle.words.proofs.Rows.{start, feed, refusal_short, counted, line_ends, line_said}
 use Rattle.words.proofs.put_row.Statement.{statement}
 use Rattle.words.proofs.put_row.Tie as tie
 
@@ -49,11 +49,11 @@ module _ (c : tie.After-find) where
   counts : count ≡ suc (feed rows number)
   counts = omega (arith, c.find.ensures.0)
 
-  line-length : count ≡ length (refusalLine refusal)
-  line-length = counts ∙ line-ends refusal rows number c.before.before.before.before.requires.0 c.before.number_of_lem.ensures
+  line-length : count ≡ length (refusal_line refusal)
+  line-length = counts ∙ line_ends refusal rows number c.before.before.before.before.requires.0 c.before.number_of_lem.ensures
 
-  line-text : take count (drop (start number) rows) ≡ refusalLine refusal
-  line-text = ap (λ k. take k (drop (start number) rows)) counts ∙ line-said refusal rows number c.before.before.before.before.requires.0 c.before.number_of_lem.ensures
+  line-text : take count (drop (start number) rows) ≡ refusal_line refusal
+  line-text = ap (λ k. take k (drop (start number) rows)) counts ∙ line_said refusal rows number c.before.before.before.before.requires.0 c.before.number_of_lem.ensures
 
 add-end : tie.Need-overflow-add-end
 add-end c = record { fits = omega (arith, (row c.before).1, c.find.ensures.1) }
@@ -65,12 +65,12 @@ part-copy-start : tie.Need-slice-bounds-copy-start
 part-copy-start c = search rules
 
 part-copy-end : tie.Need-slice-bounds-copy-end
-part-copy-end c = omega (arith, line-length c, refusal-short (refusal c), c.find.ensures.0, (row c.before).2)
+part-copy-end c = omega (arith, line-length c, refusal_short (refusal c), c.find.ensures.0, (row c.before).2)
 
 copy-requires : tie.Need-copy-requires
 copy-requires c κs =
     let found = c.before.before in
-    omega (arith, ap length (line-text found), refusal-short (refusal found), found.before.before.before.before.requires.1)
+    omega (arith, ap length (line-text found), refusal_short (refusal found), found.before.before.before.before.requires.1)
 
 same_length : tie.Need-same-length
 same_length c = search rules
@@ -78,7 +78,7 @@ same_length c = search rules
 returns : tie.Need-returns
 returns c =
     let copied = c.before.before.copy in let found = c.before.before.before.before.before in let text = take (count found) (drop (start (number found)) (rows found)) in (
-      omega (arith, copied.ensures.0, same_length c, ap length (line-text found), refusal-short (refusal found), found.before.before.before.before.requires.1),
+      omega (arith, copied.ensures.0, same_length c, ap length (line-text found), refusal_short (refusal found), found.before.before.before.before.requires.1),
       (λ i. take (copied.ensures.0 i) (copied.ensures.1 i)) ∙ take_at _ _ _ (ap length (take-length text)) ∙ take-length text ∙ line-text found,
     )
 

@@ -5,16 +5,16 @@ use Prim.Native.Nat.{◌+◌, ◌*◌}
 use native.Mathlib.Omega.{arith}
 use lib.ListN.{set, length-set}
 use Rattle.integers.proofs.Tried.{Tried, tried}
-use Rattle.runner.specs.Ticks.{runner, atLap}
-use Rattle.fleet.specs.Numbers.{records, numbers, withRecords}
-use Rattle.fleet.proofs.Triples.{count-is, set-numbers, none-set}
+use Rattle.runner.specs.Ticks.{runner, at_lap}
+use Rattle.fleet.specs.Numbers.{records, numbers, with_records}
+use Rattle.fleet.proofs.Triples.{count_is, set_numbers, none_set}
 use borrow.Author.Rules.{rules}
 use Rattle.fleet.proofs.numbers.put_record.Statement.{statement}
 use Rattle.fleet.proofs.numbers.put_record.Tie as tie
 
 -- tried: seat 1 of two is set to leg 1, offset 2, 3 laps
-seat-tried : (c : tie.Then1) → let a = c.before.args in a.turn ≡ 1 → a.lent.now ≡ 0 ∷ 0 ∷ 0 ∷ 1 ∷ 1 ∷ 3 ∷ [] → a.at ≡ atLap 3 (runner 1 2) → Tried
-unfolding records numbers withRecords
+seat-tried : (c : tie.Then1) → let a = c.before.args in a.turn ≡ 1 → a.lent.now ≡ 0 ∷ 0 ∷ 0 ∷ 1 ∷ 1 ∷ 3 ∷ [] → a.at ≡ at_lap 3 (runner 1 2) → Tried
+unfolding records numbers with_records
 seat-tried c t l r = tried (λ (need : tie.Need-returns). need c) (simp (t, l, r) refl)
 
 mul-first : tie.Need-overflow-mul-first
@@ -50,10 +50,10 @@ same_length : tie.Need-same-length
 same_length c = search rules
 
 returns : tie.Need-returns
-returns c = let a = c.before.args in set-numbers a.lent.now a.turn a.at (omega (arith, count-is a.lent.now, c.if1.true))
+returns c = let a = c.before.args in set_numbers a.lent.now a.turn a.at (omega (arith, count_is a.lent.now, c.if1.true))
 
 returns-2 : tie.Need-returns-2
-returns-2 c = let a = c.before.args in none-set a.lent.now a.turn a.at (omega (arith, count-is a.lent.now, c.if1.false))
+returns-2 c = let a = c.before.args in none_set a.lent.now a.turn a.at (omega (arith, count_is a.lent.now, c.if1.false))
 
 pub put-record-spec : {M : Type 1} → statement M
 put-record-spec =

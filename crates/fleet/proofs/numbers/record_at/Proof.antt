@@ -6,7 +6,7 @@ use lib.ListN.{get_or-eq_default}
 use Rattle.integers.proofs.Tried.{Tried, tried}
 use Rattle.seat.specs.Serving.{nobody}
 use Rattle.fleet.specs.Numbers.{records}
-use Rattle.fleet.proofs.Triples.{count-is, seat-lent}
+use Rattle.fleet.proofs.Triples.{count_is, seat_lent}
 use borrow.Author.Rules.{rules}
 use Rattle.fleet.proofs.numbers.record_at.Statement.{statement}
 use Rattle.fleet.proofs.numbers.record_at.Tie as tie
@@ -20,7 +20,7 @@ seat-tried c t l = tried (λ (need : tie.Need-returns-2). need c) (simp (t, l) r
 returns : tie.Need-returns
 returns c =
     let a = c.before.args in
-    sym (get_or-eq_default (records a.lent.now) nobody (omega (arith, count-is a.lent.now, c.if1.true)))
+    sym (get_or-eq_default (records a.lent.now) nobody (omega (arith, count_is a.lent.now, c.if1.true)))
 
 mul-first : tie.Need-overflow-mul-first
 mul-first c = search rules
@@ -52,7 +52,7 @@ shared-slice-read-laps c = search rules
 returns-2 : tie.Need-returns-2
 returns-2 c =
     let e = c.before.before.before in let a = e.before.args in
-    sym (seat-lent a.lent.now a.turn (omega (arith, count-is a.lent.now, e.if1.false)))
+    sym (seat_lent a.lent.now a.turn (omega (arith, count_is a.lent.now, e.if1.false)))
 
 pub record-at-spec : {M : Type 1} → statement M
 record-at-spec =

@@ -46,7 +46,7 @@ use denote.Exit.{yes}
 use borrow.Table.OneValue.{part_in, part_out}
 use borrow.Struct.Items.{is_same}
 use Rattle.runner.specs.declared.Runner.{Runner}
-use Rattle.runner.proofs.ByHand.{by-walk}
+use Rattle.runner.proofs.ByHand.{by_walk}
 use Rattle.runner.specs.contracts.Runner as T
 use Rattle.runner.proofs.Runner.TheLaws as T'
 use Rattle.seat.specs.declared.RoundAnswer.{RoundAnswer}
@@ -56,7 +56,7 @@ use Rattle.fleet.specs.declared.pair.PairOutcome.{PairOutcome}
 use Rattle.fleet.specs.contracts.pair.PairOutcome as S
 use Rattle.fleet.proofs.pair.PairOutcome.TheLaws as S'
 use Rattle.fleet.proofs.Lent.{Promised}
-use Rattle.fleet.proofs.OnArray.{array-lends, array_back}
+use Rattle.fleet.proofs.OnArray.{array_lends, array_back}
 use Rattle.fleet.specs.contracts.round as f
 use Rattle.fleet.proofs.round.Symbol as callee
 use Rattle.fleet.proofs.round.Met.{met}
@@ -200,7 +200,7 @@ module _ {M : Type 1} {𝓤 : Ura M} (𝓛 : Logic 𝓤) (at_mem : Memory → SP
           move ! (8 ∷ []) $ owned ! Two (Is Two) (Array-Makes 𝓛 T.the_row (LL.makes T.the_type T'.the_plain 𝓛) 2) ys (two-vals ys) made $ move ! (1 ∷ 0 ∷ []) $
           use2 𝓛 (‵ (part_at Two full_share ys l₅ 0)) (part_in 𝓛 Two refl full_share ys l₅ 0 (only (two-vals ys))) $
           lft_new ! tt (λ α. move ! (1 ∷ []) $
-          use1 𝓛 (later (some (λ (γ : GName). ‵ (Lends α l₅ γ) ⊛ ‵ (flent (α ∷ []) (Held T.the_row 2 l₅ 0 γ))))) (array-lends 𝓛 T.the_row tt (named 2) (α ∷ []) 2 ys l₅ 0 made.1.0.1 two-room) $ await ! tt $ pick ! (λ γ. split ! $
+          use1 𝓛 (later (some (λ (γ : GName). ‵ (Lends α l₅ γ) ⊛ ‵ (flent (α ∷ []) (Held T.the_row 2 l₅ 0 γ))))) (array_lends 𝓛 T.the_row tt (named 2) (α ∷ []) 2 ys l₅ 0 made.1.0.1 two-room) $ await ! tt $ pick ! (λ γ. split ! $
           -- [the lent list; the lender's part; the new token; _9; …; _8; …; _7; …; _6; …; d5; _4; …; _3; …; _2; …; _1; …; room for _0; …; the tokens; what the parameters own]
           move ! (23 ∷ []) $ fsplit ! $ move ! (1 ∷ []) $ fsplit ! $ move ! (1 ∷ []) $ drop ! $ move ! (24 ∷ []) $ split ! $ move ! (1 ∷ []) $ split ! $ move ! (1 ∷ []) $ drop ! $
           -- [κ''s token; κ's; list; s; the lent list; the lender's part; the new token; _9; …]
@@ -238,5 +238,5 @@ module _ {M : Type 1} {𝓤 : Ura M} (𝓛 : Logic 𝓤) (at_mem : Memory → SP
 pub round-pair-spec : {M : Type 1} → statement M
 unfolding code.routine
 round-pair-spec 𝓤 𝓛 𝓜 𝓡 =
-    by-walk 𝓛 𝓜 𝓡 g.ended stayed (goes 𝓛 𝓜.mem 𝓡.run) (g.clauses 𝓛 𝓜.mem 𝓡.run) code.env name code.function (code.unfolded 𝓤 𝓛.H 𝓜 𝓡)
+    by_walk 𝓛 𝓜 𝓡 g.ended stayed (goes 𝓛 𝓜.mem 𝓡.run) (g.clauses 𝓛 𝓜.mem 𝓡.run) code.env name code.function (code.unfolded 𝓤 𝓛.H 𝓜 𝓡)
     callee.name callee.routine code.calls-fleet::round (Round 𝓛 𝓜.mem 𝓡.run) (met 𝓤 𝓛 𝓜 𝓡) (pair-walks 𝓛 𝓜.mem 𝓡.run)

@@ -1,5 +1,5 @@
 -- `layout::pass::lay_axis` meets its contract: after each turn the numbers are those of as many passes from zeros. After a pass that changed nothing they are
--- those of forty passes already, by `early-end` of crate systems.
+-- those of forty passes already, by `early_end` of crate systems.
 use mathlib.Core.Path.{◌≡◌, refl, sym, ap, ◌∙◌}
 use mathlib.Core.Bool.{false}
 use Prim.Native.Nat.{ℕ, ◌-◌, ◌≤◌}
@@ -9,13 +9,13 @@ use borrow.Author.Tests.{not-true}
 use lib.IntN.{pos}
 use lib.ListN.{length, replicate}
 use Rattle.systems.specs.Passes.{passes}
-use Rattle.layout.specs.Inside.{afterPasses}
-use Rattle.layout.proofs.Passes.{passes-length, one_more, forty, settled}
+use Rattle.layout.specs.Inside.{after_passes}
+use Rattle.layout.proofs.Passes.{passes_length, one_more, forty, settled}
 use Rattle.layout.proofs.pass.lay_axis.Statement.{statement}
 use Rattle.layout.proofs.pass.lay_axis.Tie as tie
 
 abbrev invariant-loop : tie.invariant-loop
-invariant-loop s kind n axis z₀ done₀ z done = (done ≤ 40) × (z ≡ afterPasses s axis done)
+invariant-loop s kind n axis z₀ done₀ z done = (done ≤ 40) × (z ≡ after_passes s axis done)
 
 abbrev decreases-loop : tie.decreases-loop
 decreases-loop s kind n axis z₀ done₀ z done = 40 - done
@@ -27,7 +27,7 @@ loop-holds : tie.Need-loop-init invariant-loop decreases-loop
 unfolding passes
 loop-holds c =
     let s = c.before.before.before.before in
-    (omega arith, c.before.clear.ensures ∙ ap (λ (m : ℕ). replicate m (pos 0)) (s.requires.1 ∙ s.requires.0.samePoints))
+    (omega arith, c.before.clear.ensures ∙ ap (λ (m : ℕ). replicate m (pos 0)) (s.requires.1 ∙ s.requires.0.same_points))
 
 module _ (a : tie.At-loop invariant-loop decreases-loop) where
   abbrev start : tie.Start invariant-loop decreases-loop
@@ -35,7 +35,7 @@ module _ (a : tie.At-loop invariant-loop decreases-loop) where
 
   same_size : length a.loop.z ≡ length start.args.z.now
   same_size =
-      ap length a.loop.inv.1 ∙ passes-length start.args.s.now start.args.axis a.loop.done ∙ sym (start.pre.1 ∙ start.pre.0.samePoints)
+      ap length a.loop.inv.1 ∙ passes_length start.args.s.now start.args.axis a.loop.done ∙ sym (start.pre.1 ∙ start.pre.0.same_points)
 
 -- tried after forty passes: there is no other
 no-more-tried : (l : tie.In-loop invariant-loop decreases-loop) → l.before.loop.done ≡ 40 → ⊥

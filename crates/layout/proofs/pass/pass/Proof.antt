@@ -15,13 +15,13 @@ use Rattle.systems.specs.Passes.{at, renewed}
 use Rattle.spline.specs.Spline.{Course, prev, rows}
 use Rattle.layout.specs.Course.{course}
 use Rattle.layout.specs.Inside.{Small, AllSmall}
-use Rattle.layout.proofs.Given.{two-points, few-points, prev-fits}
+use Rattle.layout.proofs.Given.{two_points, few_points, prev_fits}
 use Rattle.integers.proofs.Made.{read, passed}
 use Rattle.integers.proofs.Tried.{Tried, tried}
-use Rattle.layout.proofs.Neighbours.{prev-later, next-inner}
-use Rattle.layout.proofs.Rows.{inner-present}
-use Rattle.layout.proofs.Sweep.{Through, between, kept, unmoved, at_set, turn-renews, turn-present, start-length}
-use Rattle.layout.proofs.Sweep.{through-start, through-small, through-turn, through-end}
+use Rattle.layout.proofs.Neighbours.{prev_later, next_inner}
+use Rattle.layout.proofs.Rows.{inner_present}
+use Rattle.layout.proofs.Sweep.{Through, between, kept, unmoved, at_set, turn_renews, turn_present, start_length}
+use Rattle.layout.proofs.Sweep.{through_start, through_small, through_turn, through_end}
 use Rattle.layout.proofs.pass.pass.Statement.{statement}
 use Rattle.layout.proofs.pass.pass.Tie as tie
 
@@ -38,10 +38,10 @@ abbrev Come : tie.Start invariant-loop decreases-loop → List ℤ → Bool → 
 Come s z changed i = Through s.args.s.now s.args.axis s.args.z.now z changed i
 
 come-small : (s : tie.Start invariant-loop decreases-loop) {z : List ℤ} {changed : Bool} {i : ℕ} → Come s z changed i → i ≤ s.args.n → AllSmall s.args.n z
-come-small s = through-small s.requires.0 s.requires.1
+come-small s = through_small s.requires.0 s.requires.1
 
 turn-requires : tie.Need-turn-requires invariant-loop decreases-loop
-turn-requires c κs = let s = c.before.before in (s.requires.0, (λ h. omega (arith, two-points s.requires.0)), come-small s (through-start s.args.z.now) (omega arith))
+turn-requires c κs = let s = c.before.before in (s.requires.0, (λ h. omega (arith, two_points s.requires.0)), come-small s (through_start s.args.z.now) (omega arith))
 
 -- the first waypoint is passed
 module _ (c : tie.After-turn invariant-loop decreases-loop) where
@@ -52,18 +52,18 @@ module _ (c : tie.After-turn invariant-loop decreases-loop) where
   z₁ = c.turn.new.1.1.1.1.1.0
 
   begun : Come first z₁ c.turn.result 1
-  begun = through-turn (through-start first.args.z.now) z₁ c.turn.ensures.0 c.turn.result (λ e. (refl, c.turn.ensures.1 e))
+  begun = through_turn (through_start first.args.z.now) z₁ c.turn.ensures.0 c.turn.result (λ e. (refl, c.turn.ensures.1 e))
 
   begun-small : AllSmall first.args.n z₁
-  begun-small = come-small first begun (omega (arith, two-points first.pre.0))
+  begun-small = come-small first begun (omega (arith, two_points first.pre.0))
 
 slice-copy-out-left : tie.Need-slice-copy-out-left invariant-loop decreases-loop
-slice-copy-out-left c = let t = c.before in omega (arith, (begun-small t).size, two-points (first t).requires.0)
+slice-copy-out-left c = let t = c.before in omega (arith, (begun-small t).size, two_points (first t).requires.0)
 
 loop-holds : tie.Need-loop-init invariant-loop decreases-loop
 loop-holds c =
-    let t = c.before.before in let s = first t in let two = two-points s.pre.0 in
-    let left = ap (at (z₁ t)) (prev-later (course s.args.s.now s.args.axis) 1 (omega arith)) in
+    let t = c.before.before in let s = first t in let two = two_points s.pre.0 in
+    let left = ap (at (z₁ t)) (prev_later (course s.args.s.now s.args.axis) 1 (omega arith)) in
     (omega arith, omega (arith, two), λ zs r. r, kept (begun-small t) 0 (omega (arith, two)) ∙ left)
 
 -- in a turn at i
@@ -88,10 +88,10 @@ ended : (d : tie.After-loop invariant-loop decreases-loop) → d.before.loop.i +
 ended d = omega (arith, d.before.loop.invariant.1, d.loop-test.false)
 
 add-loop : tie.Need-overflow-add-loop invariant-loop decreases-loop
-add-loop a = omega (arith, few-points (s a).requires.0, a.loop.invariant.1)
+add-loop a = omega (arith, few_points (s a).requires.0, a.loop.invariant.1)
 
 mul-old : tie.Need-overflow-mul-old invariant-loop decreases-loop
-mul-old c = omega (arith, few-points (s c.before).pre.0, c.loop-test.true)
+mul-old c = omega (arith, few_points (s c.before).pre.0, c.loop-test.true)
 
 slice-copy-out-old : tie.Need-slice-copy-out-old invariant-loop decreases-loop
 slice-copy-out-old c = omega (arith, (small c.before).size, c.loop-test.true)
@@ -105,7 +105,7 @@ add-renewed : tie.Need-overflow-add-renewed invariant-loop decreases-loop
 add-renewed c = add-loop c.before.before.before
 
 mul-renewed : tie.Need-overflow-mul-renewed invariant-loop decreases-loop
-mul-renewed c = let l = c.before.before in omega (arith, few-points (s l.before).pre.0, l.loop-test.true)
+mul-renewed c = let l = c.before.before in omega (arith, few_points (s l.before).pre.0, l.loop-test.true)
 
 slice-copy-out-renewed : tie.Need-slice-copy-out-renewed invariant-loop decreases-loop
 slice-copy-out-renewed c = let l = c.before.before in omega (arith, (small l.before).size, l.loop-test.true)
@@ -113,7 +113,7 @@ slice-copy-out-renewed c = let l = c.before.before in omega (arith, (small l.bef
 renewed-requires : tie.Need-renewed-requires invariant-loop decreases-loop
 renewed-requires c κs =
     let r = c.before in let l = r.before.before in let a = l.before in let i = a.loop.i in let h = l.loop-test.true in
-    let p-fits = prev-fits (s a).requires.0 i (omega arith) in (
+    let p-fits = prev_fits (s a).requires.0 i (omega arith) in (
       r.inner-at.ensures.1,
       subst Small (sym a.loop.invariant.3) ((small a).small (prev (c-of a) i) p-fits),
       subst Small (sym (kept (small a) (i + 1) h)) ((small a).small (i + 1) h),
@@ -155,8 +155,8 @@ module _ (c : tie.Joined1 invariant-loop decreases-loop) where
   unfolding course
   new =
       let row = f.before.before.inner-at in let o = (s a).pre.0 in let next_fits = l.loop-test.taken in
-      let right = kept (small a) (i + 1) next_fits ∙ ap (at (z a)) (next-inner (c-of a) i (omega (arith, o.samePoints))) in
-      passed f.renewed.ensures f.renewed.ok ∙ turn-renews o (z a) i row.result _ _ row.ensures.0 a.loop.inv.3 right
+      let right = kept (small a) (i + 1) next_fits ∙ ap (at (z a)) (next_inner (c-of a) i (omega (arith, o.same_points))) in
+      passed f.renewed.ensures f.renewed.ok ∙ turn_renews o (z a) i row.result _ _ row.ensures.0 a.loop.inv.3 right
 
   -- tried where 0 becomes 1: the left neighbour is the new number
   left-tried : x ≡ pos 1 → at (z a) i ≡ pos 0 → to_z w64 c.if1.left -ℤ at (z a) i ≡ pos 1
@@ -183,11 +183,11 @@ module _ (c : tie.Joined1 invariant-loop decreases-loop) where
 loop-again : tie.Need-loop-preserved invariant-loop decreases-loop
 loop-again c =
     let g = s (a c) in let (set_to, same, left) = turned c in let o = g.pre.0 in
-    let inner = inner-present o (i c) (between g.args.kind g.args.n (i c) (a c).loop.invariant.0 (l c).loop-test.true) in (
+    let inner = inner_present o (i c) (between g.args.kind g.args.n (i c) (a c).loop.invariant.0 (l c).loop-test.true) in (
       omega arith,
       omega (arith, (l c).loop-test.true),
-      λ zs t. through-turn ((a c).loop.invariant.2 zs t) c.if1.z (set_to ∙ sym (turn-present o (z (a c)) (i c) inner)) c.if1.changed same,
-      left ∙ ap (at c.if1.z) (omega (arith, prev-later (c-of (a c)) (i c + 1) (omega arith))),
+      λ zs t. through_turn ((a c).loop.invariant.2 zs t) c.if1.z (set_to ∙ sym (turn_present o (z (a c)) (i c) inner)) c.if1.changed same,
+      left ∙ ap (at c.if1.z) (omega (arith, prev_later (c-of (a c)) (i c + 1) (omega arith))),
     )
 
 -- after the loop: the last waypoint
@@ -197,7 +197,7 @@ turn-requires-2 c κs = let b = c.before.before in ((s b).requires.0, (λ h. end
 same_length : tie.Need-same-length invariant-loop decreases-loop
 same_length c =
     let f = c.before in let b = f.before.before.before in
-    f.turn2.auto.1.1.1.1.1.0 ∙ (small b).size ∙ sym (start-length (s b).requires.0 (s b).args.z.now (s b).requires.1)
+    f.turn2.auto.1.1.1.1.1.0 ∙ (small b).size ∙ sym (start_length (s b).requires.0 (s b).args.z.now (s b).requires.1)
 
 -- tried: a last turn that changed a number is answered
 module _ (c : tie.After-z2 invariant-loop decreases-loop) where
@@ -218,8 +218,8 @@ returns : tie.Need-returns invariant-loop decreases-loop
 returns c =
     let f = c.before in let d = f.before.before in let b = d.before in
     let (number, settled) = f.turn2.ensures in let r = f.turn2.result in let ch = b.loop.changed in
-    let last = through-turn (come b) _ number (r || ch) (λ g. (or_right r ch g, settled (or_left r ch g))) in
-    through-end (s b).requires.0 last (ended d)
+    let last = through_turn (come b) _ number (r || ch) (λ g. (or_right r ch g, settled (or_left r ch g))) in
+    through_end (s b).requires.0 last (ended d)
 
 pub pass_spec : {M : Type 1} → statement M
 pass_spec =

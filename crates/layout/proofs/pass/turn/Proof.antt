@@ -13,10 +13,10 @@ use Rattle.layout.specs.Course.{course}
 use Rattle.layout.specs.Inside.{RowOfEnd, Small}
 use Rattle.layout.specs.declared.row.EndRow.{EndRow}
 use Rattle.layout.specs.declared.row.EndRow.TheVariants.{Present}
-use Rattle.layout.proofs.Given.{few-points, end_fits}
+use Rattle.layout.proofs.Given.{few_points, end_fits}
 use Rattle.integers.proofs.Made.{read, passed}
-use Rattle.layout.proofs.Neighbours.{next-is}
-use Rattle.layout.proofs.Sweep.{kept, unmoved, turn-renews, turn-present, turn-absent}
+use Rattle.layout.proofs.Neighbours.{next_is}
+use Rattle.layout.proofs.Sweep.{kept, unmoved, turn_renews, turn_present, turn_absent}
 use Rattle.layout.proofs.pass.turn.Statement.{statement}
 use Rattle.layout.proofs.pass.turn.Tie as tie
 
@@ -51,7 +51,7 @@ enum_told c = search rules
 returns : tie.Need-returns
 returns c =
     let a = c.before.before in let s = a.before.before in
-    (sym (turn-absent s.requires.0 (z s) s.args.i (row_told s _ _ a.End-row.ensures c.enum_told.given.1)), λ e. refl)
+    (sym (turn_absent s.requires.0 (z s) s.args.i (row_told s _ _ a.End-row.ensures c.enum_told.given.1)), λ e. refl)
 
 -- where there is a row
 module _ (r : tie.After-end) where
@@ -62,7 +62,7 @@ module _ (r : tie.After-end) where
   told = row_told start _ _ r.before.before.End-row.ensures r.end.given.1
 
 mul-old : tie.Need-overflow-mul-old
-mul-old c = let s = start c.before in omega (arith, few-points s.pre.0, fits s)
+mul-old c = let s = start c.before in omega (arith, few_points s.pre.0, fits s)
 
 slice-copy-out-old : tie.Need-slice-copy-out-old
 slice-copy-out-old c = let s = start c.before in omega (arith, s.pre.2.size, fits s)
@@ -71,7 +71,7 @@ before-requires : tie.Need-before-requires
 before-requires c κs = fits (start c.before.before)
 
 mul_left : tie.Need-overflow-mul-left
-mul_left c = omega (arith, few-points (start c.before.before.before).pre.0, c.before2.ensures.0)
+mul_left c = omega (arith, few_points (start c.before.before.before).pre.0, c.before2.ensures.0)
 
 slice-copy-out-left : tie.Need-slice-copy-out-left
 slice-copy-out-left c = omega (arith, (start c.before.before.before).pre.2.size, c.before2.ensures.0)
@@ -80,7 +80,7 @@ end-of-requires : tie.Need-end-of-requires
 end-of-requires c κs = fits (start c.before.before.before.before)
 
 mul-renewed : tie.Need-overflow-mul-renewed
-mul-renewed c = omega (arith, few-points (start c.before.before.before.before.before).pre.0, c.end_of_lem.ensures.1)
+mul-renewed c = omega (arith, few_points (start c.before.before.before.before.before).pre.0, c.end_of_lem.ensures.1)
 
 slice-copy-out-renewed : tie.Need-slice-copy-out-renewed
 slice-copy-out-renewed c = omega (arith, (start c.before.before.before.before.before).pre.2.size, c.end_of_lem.ensures.1)
@@ -91,7 +91,7 @@ renewed-requires c κs =
     ((told r).2, as_read s p.before2.result p.before2.ensures.0, as_read s q.end_of_lem.result q.end_of_lem.ensures.1)
 
 mul-x : tie.Need-overflow-mul-x
-mul-x c = let s = start c.before.before.before.before.before.before.before in omega (arith, few-points s.pre.0, fits s)
+mul-x c = let s = start c.before.before.before.before.before.before.before in omega (arith, few_points s.pre.0, fits s)
 
 slice-set-from-x : tie.Need-slice-set-from-x
 slice-set-from-x c = let s = start c.before.before.before.before.before.before.before in omega (arith, s.pre.2.size, fits s)
@@ -104,11 +104,11 @@ unfolding course
 returns-2 c =
     let q = c.before.before in let p = q.before.before in let r = p.before.before.before in let s = start r in
     let small = s.pre.2 in let o = s.pre.0 in let i = s.args.i in
-    let left = kept small p.before2.result p.before2.ensures.0 ∙ ap (at (z s)) (p.before2.ensures.1 (c-of s) (sym o.samePoints)) in
-    let right = kept small q.end_of_lem.result q.end_of_lem.ensures.1 ∙ ap (at (z s)) (q.end_of_lem.ensures.0 ∙ next-is (c-of s) s.args.n i o.samePoints) in
-    let new = turn-renews o (z s) i r.end.given.0.0 _ _ (told r).1 left right in
+    let left = kept small p.before2.result p.before2.ensures.0 ∙ ap (at (z s)) (p.before2.ensures.1 (c-of s) (sym o.same_points)) in
+    let right = kept small q.end_of_lem.result q.end_of_lem.ensures.1 ∙ ap (at (z s)) (q.end_of_lem.ensures.0 ∙ next_is (c-of s) s.args.n i o.same_points) in
+    let new = turn_renews o (z s) i r.end.given.0.0 _ _ (told r).1 left right in
     let x = c.renewed.result in (
-      ap (set (z s) i) (passed c.renewed.ensures c.renewed.type-inv ∙ new) ∙ sym (turn-present o (z s) i (told r).0),
+      ap (set (z s) i) (passed c.renewed.ensures c.renewed.type-inv ∙ new) ∙ sym (turn_present o (z s) i (told r).0),
       λ e. unmoved small x i (fits s) (eqb-true _ _ (not-false _ e)),
     )
 

@@ -2,10 +2,10 @@
 use mathlib.Core.Path.{refl}
 use borrow.Author.Rules.{rules}
 use lib.IntN.{pos, nat_abs}
-use Rattle.spline.specs.Spline.{heldEndRow}
+use Rattle.spline.specs.Spline.{held_end_row}
 use Rattle.integers.proofs.Made.{Made, given, fits, minus}
 use Rattle.integers.proofs.Tried.{Tried, tried}
-use Rattle.layout.proofs.RowMade.{square, doubled, twice, rise, twice-some, zero, once, row_made}
+use Rattle.layout.proofs.RowMade.{square, doubled, twice, rise, twice_some, zero, once, row_made}
 use Rattle.layout.proofs.row.held_end.Statement.{statement}
 use Rattle.layout.proofs.row.held_end.Tie as tie
 
@@ -14,7 +14,7 @@ four : tie.Start
 four = record { args = record { g = pos 4; e = pos 16; p = pos 0 }; good = search rules; fits = search rules; pre = search rules }
 
 row-tried : Tried
-unfolding heldEndRow four
+unfolding held_end_row four
 row-tried = tried (λ (need : tie.Need-returns). (need four).0) refl
 
 e : (c : tie.Start) → Made c.args.e c.args.e 2_000_000
@@ -36,11 +36,11 @@ sub-t8 : tie.Need-overflow-sub-t8
 sub-t8 c = fits (minus (rise c.requires.0 c.args.p c.requires.2) (e c) tt)
 
 returns : tie.Need-returns
-unfolding heldEndRow
+unfolding held_end_row
 returns c =
     let l = c.requires.0 in
-    row_made (heldEndRow 2 1 (nat_abs c.args.g) c.args.e c.args.p) (square l) (twice l) zero (once (minus (rise l c.args.p c.requires.2) (e c) tt))
-    (twice-some l) tt tt tt tt
+    row_made (held_end_row 2 1 (nat_abs c.args.g) c.args.e c.args.p) (square l) (twice l) zero (once (minus (rise l c.args.p c.requires.2) (e c) tt))
+    (twice_some l) tt tt tt tt
 
 pub held-end-spec : {M : Type 1} → statement M
 held-end-spec = tie.close (tie.spec mul-t4 mul-t5 mul-t6 mul-t7 sub-t8 returns)

@@ -5,13 +5,13 @@ use native.Mathlib.Omega.{arith}
 use borrow.Author.Rules.{rules}
 use lib.IntN.{pos, nat_abs, ◌-ℤ◌}
 use Rattle.sheet.specs.Fields.{leg, waypoint}
-use Rattle.spline.specs.Spline.{Course, next, prev, stepAfter, stepBefore, innerRow}
+use Rattle.spline.specs.Spline.{Course, next, prev, step_after, step_before, inner_row}
 use Rattle.layout.specs.Course.{course}
-use Rattle.layout.specs.Inside.{codeRow}
-use Rattle.layout.proofs.Given.{same-legs, few-legs}
+use Rattle.layout.specs.Inside.{code_row}
+use Rattle.layout.proofs.Given.{same_legs, few_legs}
 use Rattle.integers.proofs.Made.{passed}
-use Rattle.layout.proofs.Neighbours.{next-is}
-use Rattle.layout.proofs.Rows.{shared-legs, inner-row}
+use Rattle.layout.proofs.Neighbours.{next_is}
+use Rattle.layout.proofs.Rows.{shared_legs, inner_row_lem}
 use Rattle.layout.proofs.row.inner_at.Statement.{statement}
 use Rattle.layout.proofs.row.inner_at.Tie as tie
 
@@ -23,16 +23,16 @@ module _ (s : tie.Start) where
   i = s.args.i
 
   fits : i < s.args.n
-  fits = let o = s.pre.0 in omega (arith, (shared-legs o i s.pre.1).1, same-legs o, few-legs o)
+  fits = let o = s.pre.0 in omega (arith, (shared_legs o i s.pre.1).1, same_legs o, few_legs o)
 
 -- the waypoint before is the course's
 p-is : (c : tie.After-before2) → let s = c.before.before in c.before2.result ≡ prev (course s.args.s.now s.args.axis) (i s)
 unfolding course
-p-is c = let s = c.before.before in c.before2.ensures.1 (course s.args.s.now s.args.axis) (sym s.requires.0.samePoints)
+p-is c = let s = c.before.before in c.before2.ensures.1 (course s.args.s.now s.args.axis) (sym s.requires.0.same_points)
 
 q-is : (c : tie.After-end-of) → let s = c.before.before.before in c.end_of_lem.result ≡ next (course s.args.s.now s.args.axis) (i s)
 unfolding course
-q-is e = let s = e.before.before.before in e.end_of_lem.ensures.0 ∙ next-is (c s) s.args.n (i s) s.pre.0.samePoints
+q-is e = let s = e.before.before.before in e.end_of_lem.ensures.0 ∙ next_is (c s) s.args.n (i s) s.pre.0.same_points
 
 before-requires : tie.Need-before-requires
 before-requires c κs = fits c.before
@@ -49,16 +49,16 @@ value-step-requires-2 c κs = let s = c.before.before.before.before in (s.requir
 leg-at-requires : tie.Need-leg-at-requires
 leg-at-requires c κs =
     let s = c.before.before.before.before.before in let o = s.requires.0 in
-    (o.bounds, rw (p-is c.before.before.before) (shared-legs o (i s) s.requires.1).0)
+    (o.bounds, rw (p-is c.before.before.before) (shared_legs o (i s) s.requires.1).0)
 
 leg-at-requires-2 : tie.Need-leg-at-requires-2
-leg-at-requires-2 c κs = let s = c.before.before.before.before.before.before in let o = s.requires.0 in (o.bounds, (shared-legs o (i s) s.requires.1).1)
+leg-at-requires-2 c κs = let s = c.before.before.before.before.before.before in let o = s.requires.0 in (o.bounds, (shared_legs o (i s) s.requires.1).1)
 
 inner-requires : tie.Need-inner-requires
 inner-requires c κs = search rules
 
 returns : tie.Need-returns
-unfolding course stepAfter stepBefore
+unfolding course step_after step_before
 returns c =
     let e = c.before.before.before in let d = e.before in let q = d.before in let p = q.before in let s = p.before.before in
     let S = s.args.s.now in let v = waypoint S s.args.axis in let l = c.before.before.leg-at in let m = c.before.leg-at2 in
@@ -67,8 +67,8 @@ returns c =
     let ds = passed d.value-step.ensures.0 d.value-step.type-inv ∙ ap (λ (j : ℕ). v j -ℤ v (i s)) (q-is q) in
     let es = passed e.value-step2.ensures.0 e.value-step2.type-inv ∙ ap (λ (j : ℕ). v (i s) -ℤ v j) (p-is p) in (
       c.inner.ensures.0
-          ∙ (λ j. codeRow (innerRow 2 1 (nat_abs (gs j)) (nat_abs (hs j)) (ds j) (es j)))
-          ∙ sym (ap codeRow (inner-row s.requires.0 (i s) s.requires.1)),
+          ∙ (λ j. code_row (inner_row 2 1 (nat_abs (gs j)) (nat_abs (hs j)) (ds j) (es j)))
+          ∙ sym (ap code_row (inner_row_lem s.requires.0 (i s) s.requires.1)),
       c.inner.ensures.1,
     )
 

@@ -4,8 +4,8 @@ use mathlib.Core.Bool.{true, ◌||◌}
 use native.Mathlib.Nat.{add-zero}
 use lib.ListN.{get_or}
 use borrow.Author.Rules.{rules}
-use Rattle.sheet.specs.Bytes.{anyBelow}
-use Rattle.sheet.specs.Reading.{legOutside}
+use Rattle.sheet.specs.Bytes.{any_below}
+use Rattle.sheet.specs.Reading.{leg_outside}
 use Rattle.lists.proofs.tested.four_outside.Statement.{statement}
 use Rattle.lists.proofs.tested.four_outside.Tie as tie
 
@@ -59,10 +59,10 @@ far-tried : (c : tie.After-leg-outside) → let a = c.before.before.before.args 
 far-tried c e = c.leg-outside.ensures ∙ simp e refl
 
 returns : tie.Need-returns
-unfolding anyBelow
+unfolding any_below
 returns c =
     let third = c.before.before in let second = third.before.before in let first = second.before.before in let a = first.before.before.before.args in let legs = a.legs.now in
-    let start = ap (λ k. legOutside (get_or legs k 0)) (sym (add-zero a.at)) in
+    let start = ap (λ k. leg_outside (get_or legs k 0)) (sym (add-zero a.at)) in
     (λ i. (first.leg-outside.ensures ∙ start) i || second.leg-outside2.ensures i || third.leg-outside3.ensures i || c.leg-outside4.ensures i)
 
 pub four-outside-spec : {M : Type 1} → statement M

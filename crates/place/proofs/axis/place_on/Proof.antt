@@ -9,7 +9,7 @@ use Rattle.sheet.specs.Fields.{leg, waypoint}
 use Rattle.spline.specs.Position.{position}
 use Rattle.systems.specs.Passes.{at}
 use Rattle.runner.specs.declared.Runner.{Runner}
-use Rattle.place.specs.Places.{end_of, bendOf, placeOn}
+use Rattle.place.specs.Places.{end_of, bend_of, place_on}
 use Rattle.place.specs.Asked.{OnLeg, Fitting}
 use Rattle.place.proofs.Fitting.{numbers_fit}
 use Rattle.place.proofs.axis.place_on.Statement.{statement}
@@ -34,11 +34,11 @@ module _ (s : tie.Start) where
   fitting : Fitting sheet list s.args.points s.args.legs runner
   fitting = s.pre.0
 
-  axis-fits : axis < 3
-  axis-fits = s.pre.1.1.1
+  axis_fits : axis < 3
+  axis_fits = s.pre.1.1.1
 
 numbers-on-requires : tie.Need-numbers-on-requires
-numbers-on-requires c κs = let s = c.before in (fitting s, (s.requires.1.1.0.0, s.requires.1.1.0.1, axis-fits s))
+numbers-on-requires c κs = let s = c.before in (fitting s, (s.requires.1.1.0.0, s.requires.1.1.0.1, axis_fits s))
 
 -- the numbers read
 module _ (c : tie.After-struct-told4) where
@@ -54,8 +54,8 @@ module _ (c : tie.After-struct-told4) where
   h-is : s.args.h ≡ leg (sheet s) (start s)
   h-is = s.pre.1.1.0.2
 
-  fit : OnLeg (leg (sheet s) (start s)) (runner s).offset (waypoint (sheet s) (axis s) (start s)) (waypoint (sheet s) (axis s) end) (bendOf (sheet s) (list s) (axis s) (start s)) (bendOf (sheet s) (list s) (axis s) end)
-  fit = numbers_fit (fitting s) s.pre.1.0 (axis s) (axis-fits s) (omega (arith, s.pre.1.1.0))
+  fit : OnLeg (leg (sheet s) (start s)) (runner s).offset (waypoint (sheet s) (axis s) (start s)) (waypoint (sheet s) (axis s) end) (bend_of (sheet s) (list s) (axis s) (start s)) (bend_of (sheet s) (list s) (axis s) end)
+  fit = numbers_fit (fitting s) s.pre.1.0 (axis s) (axis_fits s) (omega (arith, s.pre.1.1.0))
 
   v-is : read numbers.Numbers-on.result.v ≡ waypoint (sheet s) (axis s) (start s)
   v-is = read_back (given numbers.Numbers-on.ensures.0 fit.start tt)
@@ -63,11 +63,11 @@ module _ (c : tie.After-struct-told4) where
   w-is : read numbers.Numbers-on.result.w ≡ waypoint (sheet s) (axis s) end
   w-is = read_back (given numbers.Numbers-on.ensures.1 fit.end tt)
 
-  z-is : read numbers.Numbers-on.result.z ≡ bendOf (sheet s) (list s) (axis s) (start s)
-  z-is = read_back (given numbers.Numbers-on.ensures.2 fit.start-bend tt)
+  z-is : read numbers.Numbers-on.result.z ≡ bend_of (sheet s) (list s) (axis s) (start s)
+  z-is = read_back (given numbers.Numbers-on.ensures.2 fit.start_bend tt)
 
-  y-is : read numbers.Numbers-on.result.y ≡ bendOf (sheet s) (list s) (axis s) end
-  y-is = read_back (given numbers.Numbers-on.ensures.3 fit.end-bend tt)
+  y-is : read numbers.Numbers-on.result.y ≡ bend_of (sheet s) (list s) (axis s) end
+  y-is = read_back (given numbers.Numbers-on.ensures.3 fit.end_bend tt)
 
 position-requires : tie.Need-position-requires
 position-requires c κs =
@@ -81,7 +81,7 @@ held-tried : (c : tie.After-position) → let k = c.before in let n = (numbers k
 held-tried c h u v w z y = c.position.ensures ∙ simp (h, u, v, w, z, y) refl
 
 returns : tie.Need-returns
-unfolding placeOn
+unfolding place_on
 returns c =
     let k = c.before in
     passed c.position.ensures c.position.type-inv

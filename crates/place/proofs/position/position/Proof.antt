@@ -4,11 +4,11 @@ use Prim.Native.Nat.{◌*◌}
 use native.Mathlib.Omega.{arith}
 use borrow.Author.Rules.{rules}
 use lib.IntN.{pos, negsuc, nat_abs}
-use Rattle.integers.proofs.Order.{pos-le}
+use Rattle.integers.proofs.Order.{pos_le}
 use Rattle.rounding.specs.Rounded.{rounded}
 use Rattle.spline.specs.Position.{position}
 use Rattle.integers.proofs.Made.{fits, read_back, passed, times, minus}
-use Rattle.place.proofs.Numerator.{scale, past, left, sum, rest, whole, start, end, start-bend, end-bend, ends, bends, bend, numerator-is}
+use Rattle.place.proofs.Numerator.{scale, past, left, sum, rest, whole, start, end, start_bend, end_bend, ends, bends, bend, numerator_is}
 use Rattle.place.proofs.position.position.Statement.{statement}
 use Rattle.place.proofs.position.position.Tie as tie
 
@@ -56,7 +56,7 @@ cast-bend : tie.Need-overflow-cast-bend
 cast-bend c = search rules
 
 mul-bend-2 : tie.Need-overflow-mul-bend-2
-mul-bend-2 c = fits (times (sum c.requires) (end-bend c.requires) tt)
+mul-bend-2 c = fits (times (sum c.requires) (end_bend c.requires) tt)
 
 mul-bend-3 : tie.Need-overflow-mul-bend-3
 mul-bend-3 c = search rules
@@ -68,7 +68,7 @@ cast-bend-2 : tie.Need-overflow-cast-bend-2
 cast-bend-2 c = search rules
 
 mul-bend-4 : tie.Need-overflow-mul-bend-4
-mul-bend-4 c = fits (times (rest c.requires) (start-bend c.requires) tt)
+mul-bend-4 c = fits (times (rest c.requires) (start_bend c.requires) tt)
 
 add-bend-2 : tie.Need-overflow-add-bend-2
 add-bend-2 c = fits (bends c.requires)
@@ -86,13 +86,13 @@ mul-rounded : tie.Need-overflow-mul-rounded
 mul-rounded c = fits (times scale (whole c.requires) tt)
 
 rounded-requires : tie.Need-rounded-requires
-rounded-requires c κs = rw (read_back (times scale (whole c.requires) tt)) (pos-le 1 (65536 * c.args.h) (omega arith))
+rounded-requires c κs = rw (read_back (times scale (whole c.requires) tt)) (pos_le 1 (65536 * c.args.h) (omega arith))
 
 returns : tie.Need-returns
 unfolding position
 returns c =
     let o = c.before.requires in
-    let above = read_back (minus (times scale (ends o) tt) (bend o) tt) ∙ numerator-is o in let below = read_back (times scale (whole o) tt) in
+    let above = read_back (minus (times scale (ends o) tt) (bend o) tt) ∙ numerator_is o in let below = read_back (times scale (whole o) tt) in
     passed c.rounded.ensures c.rounded.type-inv ∙ (λ i. rounded (above i) (nat_abs (below i)))
 
 pub position-spec : {M : Type 1} → statement M

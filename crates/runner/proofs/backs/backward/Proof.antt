@@ -3,8 +3,8 @@ use mathlib.Core.Path.{ap, ◌∙◌}
 use borrow.Author.Rules.{rules}
 use Rattle.answers.specs.Answers.{bare}
 use Rattle.sheet.specs.declared.Refusal.TheVariants.{Start}
-use Rattle.runner.specs.Backs.{at_start, movedBack, backed, backward}
-use Rattle.runner.proofs.Kept.{kept-left}
+use Rattle.runner.specs.Backs.{at_start, moved_back, backed, backward}
+use Rattle.runner.proofs.Kept.{kept_left}
 use Rattle.runner.proofs.backs.backward.Statement.{statement}
 use Rattle.runner.proofs.backs.backward.Tie as tie
 
@@ -20,7 +20,7 @@ returns c =
     let a = c.before.before.before.args in
     let s = a.s.now in
     let told = c.before.backed.ensures in
-    (c.kept.ensures.0 ∙ ap bare told, c.kept.ensures.1 ∙ kept-left _ s a.at (at_start a.at) Start (movedBack s a.at) c.before.backed.result told)
+    (c.kept.ensures.0 ∙ ap bare told, c.kept.ensures.1 ∙ kept_left _ s a.at (at_start a.at) Start (moved_back s a.at) c.before.backed.result told)
 
 pub backward-spec : {M : Type 1} → statement M
 backward-spec = tie.close (tie.spec backed-requires kept-requires returns)

@@ -4,7 +4,7 @@ use borrow.Author.Rules.{rules}
 use Rattle.answers.specs.Answers.{bare}
 use Rattle.sheet.specs.declared.Refusal.TheVariants.{Landed}
 use Rattle.integers.proofs.Tried.{Tried, tried}
-use Rattle.runner.specs.Ticks.{runner, toldRunner, left}
+use Rattle.runner.specs.Ticks.{runner, told_runner, left}
 use Rattle.runner.specs.declared.RunnerAnswer.TheVariants.{At, Refused}
 use Rattle.runner.proofs.records.kept.Statement.{statement}
 use Rattle.runner.proofs.records.kept.Tie as tie
@@ -27,13 +27,13 @@ returns : tie.Need-returns
 returns c =
     let a = c.before.before.before.args in
     let told = sym c.before.answer.given.1 in
-    (ap (λ x. bare (toldRunner x)) told, ap (λ x. left x a.at) told)
+    (ap (λ x. bare (told_runner x)) told, ap (λ x. left x a.at) told)
 
 returns-2 : tie.Need-returns-2
 returns-2 c =
     let a = c.before.before.before.args in
     let told = sym c.before.answer2.given.1 in
-    (ap (λ x. bare (toldRunner x)) told, ap (λ x. left x a.at) told)
+    (ap (λ x. bare (told_runner x)) told, ap (λ x. left x a.at) told)
 
 pub kept-spec : {M : Type 1} → statement M
 kept-spec = tie.close (tie.spec enum-known-answer enum-known-answer-2 returns returns-2)

@@ -3,7 +3,7 @@ use mathlib.Core.Path.{◌≡◌, refl, sym, ap, ◌∙◌}
 use mathlib.Core.Bool.{true, false, ◌&&◌, ◌||◌}
 use lib.Dec.{ltb}
 use Rattle.integers.proofs.Tried.{Tried, tried}
-use Rattle.runner.specs.Ticks.{isOpen}
+use Rattle.runner.specs.Ticks.{is_open}
 use Rattle.runner.specs.Steps.{adrift}
 use borrow.Author.Rules.{rules}
 use Rattle.runner.proofs.steps.is_adrift.Statement.{statement}
@@ -24,7 +24,7 @@ returns : tie.Need-returns
 unfolding adrift
 returns c =
     let e = c.before.before.before.before in
-    let open-ended = c.before.is_open.ensures ∙ ap isOpen e.requires.is-kind in
+    let open-ended = c.before.is_open.ensures ∙ ap is_open e.requires.is_kind in
     λ i. c.before.before.is-off-legs.ensures i || open-ended i && ltb 0 e.args.at.laps
 
 pub is-adrift-spec : {M : Type 1} → statement M

@@ -4,15 +4,15 @@ use mathlib.Core.Bool.{not}
 use native.Mathlib.Omega.{arith}
 use borrow.Author.Tests.{lt-ltb, le-ltb}
 use Rattle.sheet.specs.Fields.{legs, leg}
-use Rattle.runner.specs.Steps.{offLegs}
+use Rattle.runner.specs.Steps.{off_legs}
 use Rattle.runner.proofs.Room.{room}
-use Rattle.runner.proofs.Standing.{on-legs}
+use Rattle.runner.proofs.Standing.{on_legs}
 use borrow.Author.Rules.{rules}
 use Rattle.runner.proofs.steps.is_off_legs.Statement.{statement}
 use Rattle.runner.proofs.steps.is_off_legs.Tie as tie
 
 returns : tie.Need-returns
-unfolding offLegs
+unfolding off_legs
 returns c =
     let e = c.before.before.before in
     simp (le-ltb e.args.at.leg (legs e.args.s.now) (omega arith))
@@ -28,13 +28,13 @@ returns-2 : tie.Need-returns-2
 returns-2 c =
     let e = c.before.before.before.before.before.before in
     let h = c.before.before.leg-length.ensures in
-    sym (on-legs e.args.s.now e.args.at (omega arith) (omega arith))
+    sym (on_legs e.args.s.now e.args.at (omega arith) (omega arith))
 
 is-landed-requires : tie.Need-is-landed-requires
 is-landed-requires c κs = search rules
 
 returns-3 : tie.Need-returns-3
-unfolding offLegs
+unfolding off_legs
 returns-3 c =
     let e = c.before.before.before.before.before.before.before in
     let l = e.args.at.leg in

@@ -5,11 +5,11 @@ use mathlib.Core.List.{List}
 use Prim.Native.Nat.{ℕ}
 use native.Mathlib.Omega.{arith}
 use Rattle.runner.specs.Ticks.{found, IsRead}
-use Rattle.runner.specs.Steps.{adrift, steppedBy}
+use Rattle.runner.specs.Steps.{adrift, stepped_by}
 use Rattle.runner.specs.declared.Runner.{Runner}
 use Rattle.answers.proofs.Guards.{passed_on}
-use Rattle.runner.proofs.Entry.{CourseBy, course-by}
-use Rattle.runner.proofs.Standing.{standing, leg-below}
+use Rattle.runner.proofs.Entry.{CourseBy, course_by}
+use Rattle.runner.proofs.Standing.{standing, leg_below}
 use borrow.Author.Rules.{rules}
 use Rattle.runner.proofs.steps.stepped_by.Statement.{statement}
 use Rattle.runner.proofs.steps.stepped_by.Tie as tie
@@ -25,7 +25,7 @@ module _ (c : tie.After-known-told) where
   R = c.before.before.before.before.before.args.at
 
   told-course : CourseBy limit S c.before.reading.given.0.0 c.before.reading.given.0.1.0 c.before.reading.given.0.1.1.0
-  told-course = course-by limit S _ c.before.before.before.read_by_lem.ensures _ _ _ c.before.reading.given.1
+  told-course = course_by limit S _ c.before.before.before.read_by_lem.ensures _ _ _ c.before.reading.given.1
 
 is_read : (c : tie.After-leg-count) → IsRead (S c.before) c.before.before.reading.given.0.0 c.leg-count.result
 is_read c = (told-course c.before).is_read _ c.leg-count.ensures
@@ -47,7 +47,7 @@ refusal-of-requires : tie.Need-refusal-of-requires
 refusal-of-requires c κs = search rules
 
 returns : tie.Need-returns
-unfolding steppedBy
+unfolding stepped_by
 returns c =
     let t = c.before in
     let r = t.before.before in
@@ -60,7 +60,7 @@ is-adrift-requires : tie.Need-is-adrift-requires
 is-adrift-requires c κs = is_read c
 
 returns-2 : tie.Need-returns-2
-unfolding steppedBy
+unfolding stepped_by
 returns-2 c =
     let k = c.before.before.before in
     simp ((told-course k).read, sym c.before.is-adrift.ensures ∙ c.if1.true)
@@ -68,11 +68,11 @@ returns-2 c =
 is-landed-requires : tie.Need-is-landed-requires
 is-landed-requires c κs =
     let l = c.before.before in
-    let below = leg-below _ _ (standing (S l.before) (R l.before) (fits c)) in
-    (is_read l, omega (arith, (is_read l).is-legs))
+    let below = leg_below _ _ (standing (S l.before) (R l.before) (fits c)) in
+    (is_read l, omega (arith, (is_read l).is_legs))
 
 returns-3 : tie.Need-returns-3
-unfolding steppedBy
+unfolding stepped_by
 returns-3 c =
     let f = c.before.before in
     simp ((told-course f.before.before.before).read, fits f, sym c.before.is_landed.ensures ∙ c.if2.true)
@@ -83,7 +83,7 @@ moved-requires c κs =
     (is_read f.before.before, (fits f, sym c.before.is_landed.ensures ∙ c.if2.false))
 
 returns-4 : tie.Need-returns-4
-unfolding steppedBy
+unfolding stepped_by
 returns-4 c =
     let b = c.before in
     let f = b.before.before in

@@ -3,7 +3,7 @@ use mathlib.Core.Path.{◌≡◌, refl, sym, ap}
 use borrow.Author.Rules.{rules}
 use Rattle.ends.specs.declared.EndKind.TheVariants.{Closed}
 use Rattle.integers.proofs.Tried.{Tried, tried}
-use Rattle.runner.specs.Ticks.{lapsIn}
+use Rattle.runner.specs.Ticks.{laps_in}
 use Rattle.runner.proofs.ticks.laps_in.Statement.{statement}
 use Rattle.runner.proofs.ticks.laps_in.Tie as tie
 
@@ -30,7 +30,7 @@ lap-tried : (c : tie.After-enum-told3) → let a = c.before.before.args in a.kin
 lap-tried c k p t = tried (λ (need : tie.Need-returns-3). need c) (simp (k, p, t) refl)
 
 returns-3 : tie.Need-returns-3
-returns-3 c = sym (ap (λ k. lapsIn k c.before.before.args.ticks c.before.before.args.tick) c.enum-told3.given.1)
+returns-3 c = sym (ap (λ k. laps_in k c.before.before.args.ticks c.before.before.args.tick) c.enum-told3.given.1)
 
 pub laps-in-spec : {M : Type 1} → statement M
 laps-in-spec =

@@ -4,16 +4,16 @@ use mathlib.Core.Path.{◌≡◌, sym, ap, ◌∙◌}
 use mathlib.Core.Logic.{◌⊎◌, inl, inr}
 use Prim.Native.Nat.{ℕ, ◌+◌, ◌-◌, ◌≤◌, ◌<◌}
 use native.Mathlib.Omega.{arith}
-use Rattle.sheet.proofs.Below.{sum_step, sum-monotone}
-use Rattle.sheet.specs.Bytes.{sumBelow}
+use Rattle.sheet.proofs.Below.{sum_step, sum_monotone}
+use Rattle.sheet.specs.Bytes.{sum_below}
 use Rattle.sheet.specs.Fields.{leg}
-use Rattle.runner.specs.Ticks.{runner, atLap, walk}
-use Rattle.runner.proofs.Walk.{walk-by-sums}
+use Rattle.runner.specs.Ticks.{runner, at_lap, walk}
+use Rattle.runner.proofs.Walk.{walk_by_sums}
 use Rattle.runner.proofs.ticks.leg_from.Statement.{statement}
 use Rattle.runner.proofs.ticks.leg_from.Tie as tie
 
 abbrev invariant-loop : tie.invariant-loop
-invariant-loop s legs first before tick laps i₀ start₀ i start = (i < legs) × (start ≡ sumBelow (leg s) i) × (start ≤ tick)
+invariant-loop s legs first before tick laps i₀ start₀ i start = (i < legs) × (start ≡ sum_below (leg s) i) × (start ≤ tick)
 
 abbrev decreases-loop : tie.decreases-loop
 decreases-loop s legs first before tick laps i₀ start₀ i start = legs - i
@@ -31,13 +31,13 @@ module _ (c : tie.After-leg-length invariant-loop decreases-loop) where
   abbrev h : ℕ → ℕ
   h = leg c.before.before.before.before.args.s.now
 
-  end_is : c.before.before.loop.start + c.leg-length.result ≡ sumBelow h (i + 1)
+  end_is : c.before.before.loop.start + c.leg-length.result ≡ sum_below h (i + 1)
   end_is = (λ j. c.before.before.loop.invariant.1 j + c.leg-length.ensures j) ∙ sym (sum_step h i)
 
 -- where the walk stops
-stopped : (h : ℕ → ℕ) (legs i start tick laps : ℕ) → i < legs → start ≡ sumBelow h i → start ≤ tick → (tick < sumBelow h (i + 1)) ⊎ (i + 1 ≡ legs)
-    → atLap laps (runner i (tick - start)) ≡ atLap laps (walk h (legs - 1) 0 tick)
-stopped h legs i start tick laps p e q till = ap (atLap laps) ((λ j. runner i (tick - e j)) ∙ walk-by-sums h legs i tick p (omega arith) till)
+stopped : (h : ℕ → ℕ) (legs i start tick laps : ℕ) → i < legs → start ≡ sum_below h i → start ≤ tick → (tick < sum_below h (i + 1)) ⊎ (i + 1 ≡ legs)
+    → at_lap laps (runner i (tick - start)) ≡ at_lap laps (walk h (legs - 1) 0 tick)
+stopped h legs i start tick laps p e q till = ap (at_lap laps) ((λ j. runner i (tick - e j)) ∙ walk_by_sums h legs i tick p (omega arith) till)
 
 loop-holds : tie.Need-loop-init invariant-loop decreases-loop
 loop-holds c = (omega arith, omega arith, omega arith)
@@ -49,7 +49,7 @@ leg-length-requires : tie.Need-leg-length-requires invariant-loop decreases-loop
 leg-length-requires c κs = omega arith
 
 add-end : tie.Need-overflow-add-end invariant-loop decreases-loop
-add-end c = omega (arith, end_is c, sum-monotone (h c) (i c + 1) c.before.before.before.before.args.legs (omega arith))
+add-end c = omega (arith, end_is c, sum_monotone (h c) (i c + 1) c.before.before.before.before.args.legs (omega arith))
 
 sub-t14 : tie.Need-overflow-sub-t14 invariant-loop decreases-loop
 sub-t14 c = omega arith

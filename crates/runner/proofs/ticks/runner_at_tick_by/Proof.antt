@@ -4,9 +4,9 @@ use mathlib.Core.Bool.{Bool, true, false, ◌&&◌}
 use mathlib.Core.List.{List}
 use Prim.Native.Nat.{ℕ}
 use lib.Dec.{ltb}
-use Rattle.runner.specs.Ticks.{found, isOpen, past, runnerAtTickBy}
+use Rattle.runner.specs.Ticks.{found, is_open, past, runner_at_tick_by}
 use Rattle.answers.proofs.Guards.{passed_on}
-use Rattle.runner.proofs.Entry.{CourseBy, course-by, carried}
+use Rattle.runner.proofs.Entry.{CourseBy, course_by, carried}
 use borrow.Author.Rules.{rules}
 use Rattle.runner.proofs.ticks.runner_at_tick_by.Statement.{statement}
 use Rattle.runner.proofs.ticks.runner_at_tick_by.Tie as tie
@@ -22,13 +22,13 @@ module _ (c : tie.After-known-told) where
   T = c.before.before.before.before.before.before.args.tick
 
   told-course : CourseBy limit S c.before.reading.given.0.0 c.before.reading.given.0.1.0 c.before.reading.given.0.1.1.0
-  told-course = course-by limit S _ c.before.before.before.read-with-sums.ensures.0 _ _ _ c.before.reading.given.1
+  told-course = course_by limit S _ c.before.before.before.read-with-sums.ensures.0 _ _ _ c.before.reading.given.1
 
 -- the code's test of 10 is the definition's
 is-past-said : (c : tie.After-is-past) (b : Bool) → c.is-past.result ≡ b → past (S c.before) (T c.before) ≡ b
 is-past-said c b e =
     let told = told-course c.before in
-    sym (c.is-past.ensures ∙ (λ i. isOpen (told.is-kind i) && ltb (told.is-ticks i) (T c.before))) ∙ e
+    sym (c.is-past.ensures ∙ (λ i. is_open (told.is_kind i) && ltb (told.is_ticks i) (T c.before))) ∙ e
 
 read-with-sums-requires : tie.Need-read-with-sums-requires
 read-with-sums-requires c κs = search rules
@@ -43,7 +43,7 @@ refusal-of-requires : tie.Need-refusal-of-requires
 refusal-of-requires c κs = search rules
 
 returns : tie.Need-returns
-unfolding runnerAtTickBy
+unfolding runner_at_tick_by
 returns c =
     let t = c.before in
     let r = t.before.before in
@@ -54,7 +54,7 @@ is-past-requires : tie.Need-is-past-requires
 is-past-requires c κs = search rules
 
 returns-2 : tie.Need-returns-2
-unfolding runnerAtTickBy
+unfolding runner_at_tick_by
 returns-2 c = simp ((told-course c.before.before).read, is-past-said c.before true c.if1.true)
 
 leg-count-requires : tie.Need-leg-count-requires
@@ -63,10 +63,10 @@ leg-count-requires c κs = (told-course c.before.before).some
 spot-at-requires : tie.Need-spot-at-requires
 spot-at-requires c κs =
     let k = c.before.before.before.before in let told = told-course k in let is = told.is_read _ c.before.leg-count.ensures in
-    (is, (told.is-ticks, carried _ _ _ k.before.before.before.read-with-sums.ensures.1 k.before.reading.given.1 is))
+    (is, (told.is_ticks, carried _ _ _ k.before.before.before.read-with-sums.ensures.1 k.before.reading.given.1 is))
 
 returns-3 : tie.Need-returns-3
-unfolding runnerAtTickBy
+unfolding runner_at_tick_by
 returns-3 c =
     let q = c.before.before.before in
     ap found c.spot-at.ensures ∙ simp ((told-course q.before.before).read, is-past-said q.before false q.if1.false)

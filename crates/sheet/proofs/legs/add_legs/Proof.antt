@@ -6,25 +6,25 @@ use Prim.Native.Nat.{ℕ, ◌+◌, ◌*◌, ◌-◌, ◌/◌, ◌%◌, ◌≤◌
 use native.Mathlib.Nat.{div-add-mod, div-eq_of_lt-le}
 use native.Mathlib.Omega.{arith}
 use lib.ListN.{length, length-set}
-use Rattle.sheet.specs.Bytes.{anyBelow, sumBelow}
-use Rattle.sheet.specs.Carried.{stride, mostSums}
+use Rattle.sheet.specs.Bytes.{any_below, sum_below}
+use Rattle.sheet.specs.Carried.{stride, most_sums}
 use Rattle.sheet.specs.Fields.{leg}
-use Rattle.sheet.specs.Reading.{legOutside}
-use Rattle.sheet.proofs.Below.{any_append, sum-append}
+use Rattle.sheet.specs.Reading.{leg_outside}
+use Rattle.sheet.proofs.Below.{any_append, sum_append}
 use Rattle.sheet.proofs.Carried.{Kept, kept_next}
 use Rattle.sheet.proofs.legs.add_legs.Statement.{statement}
 use Rattle.sheet.proofs.legs.add_legs.Tie as tie
 
 -- the sum and the flag of the first n legs
 abbrev Summed : List ℕ → ℕ → ℕ → Bool → Type 0
-Summed s n ticks outside = (ticks ≡ sumBelow (leg s) n) × (outside ≡ anyBelow (λ i. legOutside (leg s i)) n)
+Summed s n ticks outside = (ticks ≡ sum_below (leg s) n) × (outside ≡ any_below (λ i. leg_outside (leg s i)) n)
 
 -- and of m more
 summed-on : (s : List ℕ) (n m ticks more : ℕ) (outside other : Bool) → Summed s n ticks outside
-    → (more ≡ sumBelow (λ i. leg s (n + i)) m) × (other ≡ anyBelow (λ i. legOutside (leg s (n + i))) m) → Summed s (n + m) (ticks + more) (outside || other)
+    → (more ≡ sum_below (λ i. leg s (n + i)) m) × (other ≡ any_below (λ i. leg_outside (leg s (n + i))) m) → Summed s (n + m) (ticks + more) (outside || other)
 summed-on s n m ticks more outside other e f = (
-  (λ i. e.0 i + f.0 i) ∙ sym (sum-append (leg s) n m),
-  (λ i. e.1 i || f.1 i) ∙ sym (any_append (λ i. legOutside (leg s i)) n m),
+  (λ i. e.0 i + f.0 i) ∙ sym (sum_append (leg s) n m),
+  (λ i. e.1 i || f.1 i) ∙ sym (any_append (λ i. leg_outside (leg s i)) n m),
 )
 
 -- behind b sixteens, the legs that are left
@@ -35,13 +35,13 @@ rest-is count from b e l g =
 
 abbrev invariant-loop : tie.invariant-loop
 invariant-loop s count sums₀ ticks₀ outside₀ from₀ b₀ sums ticks outside from b =
-    (from ≡ stride * b) × (from ≤ count) × (ticks ≤ 65535 * from) × (length sums ≡ mostSums) × Summed s from ticks outside × Kept s b sums
+    (from ≡ stride * b) × (from ≤ count) × (ticks ≤ 65535 * from) × (length sums ≡ most_sums) × Summed s from ticks outside × Kept s b sums
 
 abbrev decreases-loop : tie.decreases-loop
 decreases-loop s count sums₀ ticks₀ outside₀ from₀ b₀ sums ticks outside from b = count - from
 
 loop-holds : tie.Need-loop-init invariant-loop decreases-loop
-unfolding anyBelow sumBelow
+unfolding any_below sum_below
 loop-holds c = (refl, omega arith, omega arith, c.before.requires.2, (refl, refl), (λ b h. absurd (omega arith)))
 
 add-loop : tie.Need-overflow-add-loop invariant-loop decreases-loop
@@ -76,7 +76,7 @@ loop-again c =
       omega arith,
       length-set l.sums l.b l.ticks ∙ l.invariant.3,
       summed-on s l.from 16 l.ticks _ l.outside _ l.invariant.4 part.ensures.0,
-      kept_next s l.sums l.b l.ticks (omega arith) (l.invariant.4.0 ∙ ap (sumBelow (leg s)) l.invariant.0) l.invariant.5,
+      kept_next s l.sums l.b l.ticks (omega arith) (l.invariant.4.0 ∙ ap (sum_below (leg s)) l.invariant.0) l.invariant.5,
     )
 
 mul-sums-2 : tie.Need-overflow-mul-sums-2 invariant-loop decreases-loop
@@ -96,8 +96,8 @@ returns c =
     let rest = c.before.before.add-some2 in let l = c.before.before.before.before.loop in let a = c.before.before.before.before.before.before.args in
     let s = a.s.now in let all = rest-is a.count l.from l.b l.invariant.0 l.invariant.1 (omega arith) in
     let is = summed-on s l.from (a.count % 16) l.ticks _ l.outside _ l.invariant.4 rest.ensures.0 in
-    let kept = kept_next s l.sums l.b l.ticks (omega arith) (l.invariant.4.0 ∙ ap (sumBelow (leg s)) l.invariant.0) l.invariant.5 in (
-      (is.0 ∙ ap (sumBelow (leg s)) all, is.1 ∙ ap (anyBelow (λ i. legOutside (leg s i))) all),
+    let kept = kept_next s l.sums l.b l.ticks (omega arith) (l.invariant.4.0 ∙ ap (sum_below (leg s)) l.invariant.0) l.invariant.5 in (
+      (is.0 ∙ ap (sum_below (leg s)) all, is.1 ∙ ap (any_below (λ i. leg_outside (leg s i))) all),
       (λ b h. kept b (omega arith)),
     )
 

@@ -4,9 +4,9 @@ use mathlib.Core.Bool.{◌||◌}
 use mathlib.Core.List.{[], ◌∷◌}
 use Prim.Native.Nat.{ℕ, ◌+◌, ◌*◌, ◌-◌, ◌≤◌}
 use native.Mathlib.Omega.{arith}
-use Rattle.sheet.specs.Bytes.{be16, anyBelow, sumBelow}
+use Rattle.sheet.specs.Bytes.{be16, any_below, sum_below}
 use Rattle.sheet.specs.Fields.{leg}
-use Rattle.sheet.specs.Reading.{legOutside}
+use Rattle.sheet.specs.Reading.{leg_outside}
 use Rattle.sheet.proofs.Below.{any_step, sum_step}
 use borrow.Author.Rules.{rules}
 use Rattle.sheet.proofs.legs.add_some.Statement.{statement}
@@ -14,7 +14,7 @@ use Rattle.sheet.proofs.legs.add_some.Tie as tie
 
 abbrev invariant-loop : tie.invariant-loop
 invariant-loop s from count ticks₀ outside₀ i₀ ticks outside i =
-    (i ≤ count) × (ticks ≤ 65535 * i) × (ticks ≡ sumBelow (λ k. leg s (from + k)) i) × (outside ≡ anyBelow (λ k. legOutside (leg s (from + k))) i)
+    (i ≤ count) × (ticks ≤ 65535 * i) × (ticks ≡ sum_below (λ k. leg s (from + k)) i) × (outside ≡ any_below (λ k. leg_outside (leg s (from + k))) i)
 
 abbrev decreases-loop : tie.decreases-loop
 decreases-loop s from count ticks₀ outside₀ i₀ ticks outside i = count - i
@@ -32,13 +32,13 @@ first-tried c e f g =
     (λ j. c.before.before.narrow.ensures.0 j * 256 + c.narrow2.ensures.0 j) ∙ (λ j. be16 (e j) (at + 2 * (f j + g j)))
 
 -- it is the leg
-leg-is : (c : tie.After-narrow2 invariant-loop decreases-loop) → let a = c.before.before.before.before.before.before.before.args in
+leg_is : (c : tie.After-narrow2 invariant-loop decreases-loop) → let a = c.before.before.before.before.before.before.before.args in
     h c ≡ leg a.s.now (a.from + c.before.before.before.before.before.loop.i)
 unfolding be16 h
-leg-is c = λ j. c.before.before.narrow.ensures.0 j * 256 + c.narrow2.ensures.0 j
+leg_is c = λ j. c.before.before.narrow.ensures.0 j * 256 + c.narrow2.ensures.0 j
 
 loop-holds : tie.Need-loop-init invariant-loop decreases-loop
-unfolding anyBelow sumBelow
+unfolding any_below sum_below
 loop-holds c = (omega arith, omega arith, refl, refl)
 
 add_at : tie.Need-overflow-add-at invariant-loop decreases-loop
@@ -93,16 +93,16 @@ loop-again : tie.Need-loop-preserved invariant-loop decreases-loop
 unfolding h
 loop-again c =
     let l = c.before.before.before.before.before.before.loop in let a = c.before.before.before.before.before.before.before.before.args in
-    let is = leg-is c.before in let g : ℕ → ℕ = λ k. leg a.s.now (a.from + k) in
-    let flag : (l.outside || c.leg-outside.result) ≡ (anyBelow (λ k. legOutside (g k)) l.i || legOutside (g l.i)) =
-    (λ j. l.invariant.3 j || (c.leg-outside.ensures ∙ ap legOutside is) j) in
-    (omega arith, omega arith, omega (arith, is, sum_step g l.i), flag ∙ sym (any_step (λ k. legOutside (g k)) l.i))
+    let is = leg_is c.before in let g : ℕ → ℕ = λ k. leg a.s.now (a.from + k) in
+    let flag : (l.outside || c.leg-outside.result) ≡ (any_below (λ k. leg_outside (g k)) l.i || leg_outside (g l.i)) =
+    (λ j. l.invariant.3 j || (c.leg-outside.ensures ∙ ap leg_outside is) j) in
+    (omega arith, omega arith, omega (arith, is, sum_step g l.i), flag ∙ sym (any_step (λ k. leg_outside (g k)) l.i))
 
 returns : tie.Need-returns invariant-loop decreases-loop
 returns c =
     let l = c.before.loop in let a = c.before.before.before.args in let h : ℕ → ℕ = λ k. leg a.s.now (a.from + k) in
     let e : l.i ≡ a.count = omega arith in
-    ((l.invariant.2 ∙ ap (sumBelow h) e, l.invariant.3 ∙ ap (anyBelow (λ k. legOutside (h k))) e), omega arith)
+    ((l.invariant.2 ∙ ap (sum_below h) e, l.invariant.3 ∙ ap (any_below (λ k. leg_outside (h k))) e), omega arith)
 
 pub add-some-spec : {M : Type 1} → statement M
 add-some-spec =

@@ -4,7 +4,7 @@ use native.Mathlib.Omega.{arith}
 use borrow.Author.Rules.{rules}
 use Rattle.integers.proofs.Tried.{Tried, tried}
 use Rattle.sheet.specs.Bytes.{signed32}
-use Rattle.sheet.proofs.Numbers.{on-up, in-plan, outside-moved}
+use Rattle.sheet.proofs.Numbers.{on_up, in_plan, outside_moved}
 use Rattle.sheet.proofs.limits.bits_outside.Statement.{statement}
 use Rattle.sheet.proofs.limits.bits_outside.Tie as tie
 
@@ -25,7 +25,7 @@ add-result c = search rules
 returns : tie.Need-returns
 returns c =
     let s = c.before in
-    outside-moved 50_000 120_000 s.args.x s.requires (omega arith) (omega arith) ∙ on-up s.args.axis (signed32 s.args.x) c.if1.true
+    outside_moved 50_000 120_000 s.args.x s.requires (omega arith) (omega arith) ∙ on_up s.args.axis (signed32 s.args.x) c.if1.true
 
 add-result-2 : tie.Need-overflow-add-result-2
 add-result-2 c = search rules
@@ -33,7 +33,7 @@ add-result-2 c = search rules
 returns-2 : tie.Need-returns-2
 returns-2 c =
     let s = c.before in
-    outside-moved 1_000_000 1_000_000 s.args.x s.requires (omega arith) (omega arith) ∙ in-plan s.args.axis (signed32 s.args.x) c.if1.false
+    outside_moved 1_000_000 1_000_000 s.args.x s.requires (omega arith) (omega arith) ∙ in_plan s.args.axis (signed32 s.args.x) c.if1.false
 
 pub bits-outside-spec : {M : Type 1} → statement M
 bits-outside-spec = tie.close (tie.spec add-result returns add-result-2 returns-2)

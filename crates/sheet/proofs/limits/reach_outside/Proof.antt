@@ -6,7 +6,7 @@ use lib.IntN.{pos, neg_ℤ}
 use Rattle.integers.proofs.Machine.{back}
 use Rattle.integers.proofs.Tried.{Tried, tried}
 use Rattle.sheet.specs.Reading.{outside}
-use Rattle.sheet.proofs.Numbers.{on-up, in-plan}
+use Rattle.sheet.proofs.Numbers.{on_up, in_plan}
 use Rattle.sheet.proofs.limits.reach_outside.Statement.{statement}
 use Rattle.sheet.proofs.limits.reach_outside.Tie as tie
 
@@ -42,10 +42,10 @@ unfolding far
 far-tried = tried (λ (need : tie.Need-returns-2). need far) refl
 
 returns : tie.Need-returns
-returns c = let s = c.before in ap (outside 50_000 120_000) (back refl s.ranges.z) ∙ on-up s.args.axis s.args.z c.if1.true
+returns c = let s = c.before in ap (outside 50_000 120_000) (back refl s.ranges.z) ∙ on_up s.args.axis s.args.z c.if1.true
 
 returns-2 : tie.Need-returns-2
-returns-2 c = let s = c.before in ap (outside 1_000_000 1_000_000) (back refl s.ranges.z) ∙ in-plan s.args.axis s.args.z c.if1.false
+returns-2 c = let s = c.before in ap (outside 1_000_000 1_000_000) (back refl s.ranges.z) ∙ in_plan s.args.axis s.args.z c.if1.false
 
 pub reach-outside-spec : {M : Type 1} → statement M
 reach-outside-spec = tie.close (tie.spec returns returns-2)

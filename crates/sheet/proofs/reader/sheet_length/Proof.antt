@@ -3,13 +3,13 @@ use mathlib.Core.Path.{ap}
 use Prim.Native.Nat.{◌≤◌}
 use native.Mathlib.Omega.{arith}
 use borrow.Author.Rules.{rules}
-use Rattle.sheet.specs.Fields.{slopeBytes}
-use Rattle.sheet.proofs.ByKind.{legs-at-most}
+use Rattle.sheet.specs.Fields.{slope_bytes}
+use Rattle.sheet.proofs.ByKind.{legs_at_most}
 use Rattle.sheet.proofs.reader.sheet_length.Statement.{statement}
 use Rattle.sheet.proofs.reader.sheet_length.Tie as tie
 
 few : (c : tie.After-leg-count) → c.leg-count.result ≤ c.before.args.points
-few c = omega (arith, c.leg-count.ensures, legs-at-most c.before.args.kind c.before.args.points)
+few c = omega (arith, c.leg-count.ensures, legs_at_most c.before.args.kind c.before.args.points)
 
 leg-count-requires : tie.Need-leg-count-requires
 leg-count-requires c κs = search rules
@@ -39,13 +39,13 @@ enum-told-3 : tie.Need-enum-told-3
 enum-told-3 c = search rules
 
 returns : tie.Need-returns
-returns c = omega (arith, c.before.before.leg-count.ensures, ap slopeBytes c.enum_told.given.1)
+returns c = omega (arith, c.before.before.leg-count.ensures, ap slope_bytes c.enum_told.given.1)
 
 returns-2 : tie.Need-returns-2
-returns-2 c = omega (arith, c.before.before.leg-count.ensures, ap slopeBytes c.enum-told2.given.1)
+returns-2 c = omega (arith, c.before.before.leg-count.ensures, ap slope_bytes c.enum-told2.given.1)
 
 returns-3 : tie.Need-returns-3
-returns-3 c = omega (arith, c.before.before.leg-count.ensures, ap slopeBytes c.enum-told3.given.1)
+returns-3 c = omega (arith, c.before.before.leg-count.ensures, ap slope_bytes c.enum-told3.given.1)
 
 pub sheet-length-spec : {M : Type 1} → statement M
 sheet-length-spec =

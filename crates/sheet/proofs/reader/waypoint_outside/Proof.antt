@@ -5,8 +5,8 @@ use mathlib.Core.List.{List, [], ◌∷◌}
 use Prim.Native.Nat.{ℕ, ◌+◌}
 use borrow.Author.Rules.{rules}
 use Rattle.sheet.specs.Bytes.{be16, be32, signed32}
-use Rattle.sheet.specs.Reading.{reachOutside}
-use Rattle.sheet.proofs.Numbers.{any-axis}
+use Rattle.sheet.specs.Reading.{reach_outside}
+use Rattle.sheet.proofs.Numbers.{any_axis}
 use Rattle.sheet.proofs.reader.waypoint_outside.Statement.{statement}
 use Rattle.sheet.proofs.reader.waypoint_outside.Tie as tie
 
@@ -27,11 +27,11 @@ module _ (c : tie.After-bits-outside) where
   abbrev at : ℕ
   at = c.before.before.before.args.at
 
-  north : c.bits-outside.result ≡ reachOutside 0 (signed32 (be32 S at))
-  north = c.bits-outside.ensures ∙ ap (λ n. reachOutside 0 (signed32 n)) c.before.read32.ensures.0
+  north : c.bits-outside.result ≡ reach_outside 0 (signed32 (be32 S at))
+  north = c.bits-outside.ensures ∙ ap (λ n. reach_outside 0 (signed32 n)) c.before.read32.ensures.0
 
-east : (c : tie.After-bits-outside2) → let n = c.before.before.before in c.bits-outside2.result ≡ reachOutside 1 (signed32 (be32 (S n) (at n + 4)))
-east c = c.bits-outside2.ensures ∙ ap (λ n. reachOutside 1 (signed32 n)) c.before.read322.ensures.0
+east : (c : tie.After-bits-outside2) → let n = c.before.before.before in c.bits-outside2.result ≡ reach_outside 1 (signed32 (be32 (S n) (at n + 4)))
+east c = c.bits-outside2.ensures ∙ ap (λ n. reach_outside 1 (signed32 n)) c.before.read322.ensures.0
 
 -- tried at the waypoint (0, 0, 9): it is up that is read last
 last-tried : (c : tie.After-bits-outside3) → let n = c.before.before.before.before.before.before in
@@ -39,8 +39,8 @@ last-tried : (c : tie.After-bits-outside3) → let n = c.before.before.before.be
 unfolding be16 be32
 last-tried c e f = let from : ℕ = _ in c.before.read323.ensures.0 ∙ (λ j. be32 (e j) (f j + from))
 
-up : (c : tie.After-bits-outside3) → let n = c.before.before.before.before.before.before in c.bits-outside3.result ≡ reachOutside 2 (signed32 (be32 (S n) (at n + 8)))
-up c = c.bits-outside3.ensures ∙ ap (λ n. reachOutside 2 (signed32 n)) c.before.read323.ensures.0
+up : (c : tie.After-bits-outside3) → let n = c.before.before.before.before.before.before in c.bits-outside3.result ≡ reach_outside 2 (signed32 (be32 (S n) (at n + 8)))
+up c = c.bits-outside3.ensures ∙ ap (λ n. reach_outside 2 (signed32 n)) c.before.read323.ensures.0
 
 read32-requires : tie.Need-read32-requires
 read32-requires c κs = search rules
@@ -49,7 +49,7 @@ bits-outside-requires : tie.Need-bits-outside-requires
 bits-outside-requires c κs = search rules
 
 returns : tie.Need-returns
-returns c = let n = c.before in any-axis reachOutside (S n) (at n) (sym c.if1.true ∙ north n) refl refl
+returns c = let n = c.before in any_axis reach_outside (S n) (at n) (sym c.if1.true ∙ north n) refl refl
 
 add-read32 : tie.Need-overflow-add-read32
 add-read32 c = search rules
@@ -63,7 +63,7 @@ bits-outside-requires-2 c κs = search rules
 returns-2 : tie.Need-returns-2
 returns-2 c =
     let e = c.before in let f = e.before.before in let n = f.before in
-    any-axis reachOutside (S n) (at n) (sym f.if1.false ∙ north n) (sym c.if2.true ∙ east e) refl
+    any_axis reach_outside (S n) (at n) (sym f.if1.false ∙ north n) (sym c.if2.true ∙ east e) refl
 
 add-read32-2 : tie.Need-overflow-add-read32-2
 add-read32-2 c = search rules
@@ -77,7 +77,7 @@ bits-outside-requires-3 c κs = search rules
 returns-3 : tie.Need-returns-3
 returns-3 c =
     let g = c.before.before in let e = g.before in let f = e.before.before in let n = f.before in
-    any-axis reachOutside (S n) (at n) (sym f.if1.false ∙ north n) (sym g.if2.false ∙ east e) (up c)
+    any_axis reach_outside (S n) (at n) (sym f.if1.false ∙ north n) (sym g.if2.false ∙ east e) (up c)
 
 pub waypoint-outside-spec : {M : Type 1} → statement M
 waypoint-outside-spec =

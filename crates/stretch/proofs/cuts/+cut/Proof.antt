@@ -12,9 +12,9 @@ use lib.IntN.{ℤ}
 use lib.ListN.{length, set, length-append}
 use lib.Seq.{sets}
 use Rattle.stretch.specs.Asked.{Stretch, Counted, tabled}
-use Rattle.stretch.specs.Stretches.{kept, endsOf}
-use Rattle.stretch.proofs.Ends.{ends-kept, long, halves, pair, few-ends}
-use Rattle.stretch.proofs.Stretches.{stretch-within, short-kept, sets-append}
+use Rattle.stretch.specs.Stretches.{kept, ends_of}
+use Rattle.stretch.proofs.Ends.{ends_kept, long, halves, pair, few_ends}
+use Rattle.stretch.proofs.Stretches.{stretch_within, short_kept, sets_append}
 use Rattle.stretch.proofs.cuts.cut.Reads as cut
 use Rattle.stretch.proofs.cuts.cut.Kinds as cut-kinds
 use Rattle.stretch.proofs.cuts.+cut.Lts-cut as cut-lts
@@ -63,7 +63,7 @@ module _ (t : ℕ) where
     keep = kept tolerance (tabled places)
 
     short : (b k : ℕ) → k < 2 → keep b k ≡ true
-    short = short-kept tolerance (tabled places)
+    short = short_kept tolerance (tabled places)
 
     stretch : Stretch places tolerance a m
     stretch = s.pre.1.0
@@ -72,7 +72,7 @@ module _ (t : ℕ) where
     counted = s.pre.1.1
 
     abbrev ends : ℕ → ℕ → List ℕ
-    ends b k = endsOf tolerance (tabled places) from b k
+    ends b k = ends_of tolerance (tabled places) from b k
 
   is-kept-requires : cut-lts.Need-is-kept-requires (claims t) (cut_at t) cut.Post
   is-kept-requires c κs = stretch c.before
@@ -92,7 +92,7 @@ module _ (t : ℕ) where
   returns : cut-lts.Need-returns (claims t) (cut_at t) cut.Post
   returns c =
       let p = c.before.before in let q = p.before.before in let s = q.before.before.before in
-      let e = ends-kept (keep s) (from s) (m s) (a s) (m s) (sym q.before.is-kept.ensures ∙ q.if1.true) in
+      let e = ends_kept (keep s) (from s) (m s) (a s) (m s) (sym q.before.is-kept.ensures ∙ q.if1.true) in
       (p.put-end.ensures.0 ∙ ap (λ l. n s + length l) (sym e), p.put-end.ensures.1 ∙ ap (sets (list s) (n s)) (sym e))
 
   -- the stretch is cut
@@ -144,7 +144,7 @@ module _ (t : ℕ) where
       let e = c.before.before in let s = start e in
       let h = two e in let k = counted s in (
         omega (arith, s.pre.0),
-        (stretch-within (stretch s) (a s) (m s / 2) (omega arith) (omega arith), record { tick = omega arith; count = omega arith }),
+        (stretch_within (stretch s) (a s) (m s / 2) (omega arith) (omega arith), record { tick = omega arith; count = omega arith }),
       )
 
   add-cut : cut-lts.Need-overflow-add-cut (claims t) (cut_at t) cut.Post
@@ -157,14 +157,14 @@ module _ (t : ℕ) where
   first-half : (c : cut-lts.After-cut (claims t) (cut_at t) cut.Post) → let s = start c.before.before.before in c.cut.result ≤ n s + m s / 2
   first-half c =
       let e = c.before.before.before in let s = start e in let h = two e in
-      omega (arith, c.cut.ensures.0, few-ends (keep s) (from s) (short s) (a s) (m s / 2) (omega arith))
+      omega (arith, c.cut.ensures.0, few_ends (keep s) (from s) (short s) (a s) (m s / 2) (omega arith))
 
   cut-requires-2 : cut-lts.Need-cut-requires-2 (claims t) (cut_at t) cut.Post
   cut-requires-2 c κs =
       let f = c.before.before.before in let e = f.before.before.before in let s = start e in
       let h = two e in let k = counted s in let b = first-half f in (
         omega (arith, s.pre.0),
-        (stretch-within (stretch s) (a s + m s / 2) (m s - m s / 2) (omega arith) (omega arith), record { tick = omega arith; count = omega arith }),
+        (stretch_within (stretch s) (a s + m s / 2) (m s - m s / 2) (omega arith) (omega arith), record { tick = omega arith; count = omega arith }),
       )
 
   same-length-3 : cut-lts.Need-same-length-3 (claims t) (cut_at t) cut.Post
@@ -181,7 +181,7 @@ module _ (t : ℕ) where
         omega (arith, d.cut2.ensures.0, f.cut.ensures.0, length-append l r, ap length whole),
         d.cut2.ensures.1
             ∙ (λ i. sets (f.cut.ensures.1 i) (f.cut.ensures.0 i) r)
-            ∙ sets-append l r (list s) (n s)
+            ∙ sets_append l r (list s) (n s)
             ∙ ap (sets (list s) (n s)) (sym whole),
       )
 

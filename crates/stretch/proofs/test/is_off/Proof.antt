@@ -5,12 +5,12 @@ use borrow.Author.Rules.{rules}
 use lib.IntN.{pos}
 use Rattle.integers.proofs.Made.{fits, small}
 use Rattle.integers.proofs.Tried.{Tried, tried}
-use Rattle.stretch.proofs.Off.{limit-size, limit, begun, whole-rise, risen, line, placed, distance, off-is}
+use Rattle.stretch.proofs.Off.{limit_size, limit, begun, whole_rise, risen, line, placed, distance, off_is}
 use Rattle.stretch.proofs.test.is_off.Statement.{statement}
 use Rattle.stretch.proofs.test.is_off.Tie as tie
 
 mul-limit : tie.Need-overflow-mul-limit
-mul-limit c = omega (arith, limit-size c.requires)
+mul-limit c = omega (arith, limit_size c.requires)
 
 cast-limit : tie.Need-overflow-cast-limit
 cast-limit c = fits (limit c.requires)
@@ -25,7 +25,7 @@ cast-line-2 : tie.Need-overflow-cast-line-2
 cast-line-2 c = search rules
 
 sub-line : tie.Need-overflow-sub-line
-sub-line c = fits (whole-rise c.requires)
+sub-line c = fits (whole_rise c.requires)
 
 mul-line-2 : tie.Need-overflow-mul-line-2
 mul-line-2 c = fits (risen c.requires)
@@ -51,7 +51,7 @@ equal-tried : (c : tie.After-size) → let a = c.before.args in a.tolerance ≡ 
 equal-tried c t m u x y z r = tried (λ (need : tie.Need-returns). need c) (simp (t, m, u, x, y, z, r) refl)
 
 returns : tie.Need-returns
-returns c = off-is c.before.requires c.size.ensures
+returns c = off_is c.before.requires c.size.ensures
 
 pub is-off-spec : {M : Type 1} → statement M
 is-off-spec =

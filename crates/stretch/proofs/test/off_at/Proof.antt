@@ -9,7 +9,7 @@ use Rattle.integers.proofs.Made.{read}
 use Rattle.systems.specs.Passes.{at}
 use Rattle.stretch.specs.Asked.{tabled}
 use Rattle.stretch.specs.Stretches.{off}
-use Rattle.stretch.proofs.Tests.{read-place}
+use Rattle.stretch.proofs.Tests.{read_place}
 use Rattle.stretch.proofs.test.off_at.Statement.{statement}
 use Rattle.stretch.proofs.test.off_at.Tie as tie
 
@@ -30,13 +30,13 @@ module _ (s : tie.Start) where
   u = s.args.u
 
   first-is : read (at places (257 * axis + a)) ≡ tabled places axis a
-  first-is = read-place s.pre.0 axis a (257 * axis + a) s.pre.1 (omega arith) refl
+  first-is = read_place s.pre.0 axis a (257 * axis + a) s.pre.1 (omega arith) refl
 
   here-is : read (at places (257 * axis + a + u)) ≡ tabled places axis (a + u)
-  here-is = read-place s.pre.0 axis (a + u) (257 * axis + a + u) s.pre.1 (omega (arith, s.pre.2)) (omega arith)
+  here-is = read_place s.pre.0 axis (a + u) (257 * axis + a + u) s.pre.1 (omega (arith, s.pre.2)) (omega arith)
 
   last-is : read (at places (257 * axis + a + m)) ≡ tabled places axis (a + m)
-  last-is = read-place s.pre.0 axis (a + m) (257 * axis + a + m) s.pre.1 (omega arith) (omega arith)
+  last-is = read_place s.pre.0 axis (a + m) (257 * axis + a + m) s.pre.1 (omega arith) (omega arith)
 
 mul-base : tie.Need-overflow-mul-base
 mul-base c = search rules

@@ -7,22 +7,22 @@ use borrow.Author.Rules.{rules}
 use lib.IntN.{ℤ}
 use lib.ListN.{length, set, length-append}
 use lib.Seq.{sets, set-set, length-sets}
-use Rattle.sheet.specs.Bytes.{sumBelow}
+use Rattle.sheet.specs.Bytes.{sum_below}
 use Rattle.sheet.specs.Fields.{legs as legsOf, leg}
 use Rattle.sheet.proofs.Below.{sum_step}
-use Rattle.place.proofs.Fitting.{leg-room}
+use Rattle.place.proofs.Fitting.{leg_room}
 use Rattle.strokes.specs.Asked.{OnCourse, OnLegOf}
-use Rattle.strokes.specs.Strokes.{legEnds, endsBelow}
-use Rattle.strokes.proofs.LegByLeg.{fitting, leg-ends-by, few-below, first-again, ends-step, sets_more}
+use Rattle.strokes.specs.Strokes.{leg_ends, ends_below}
+use Rattle.strokes.proofs.LegByLeg.{fitting, leg_ends_by, few_below, first_again, ends_step, sets_more}
 use Rattle.strokes.proofs.course.course_ends.Statement.{statement}
 use Rattle.strokes.proofs.course.course_ends.Tie as tie
 
 abbrev invariant-loop : tie.invariant-loop
 invariant-loop s list points legs tolerance ends₀ places₀ n₀ from₀ i₀ ends places n from i =
     (i ≤ legs)
-    × (from ≡ sumBelow (leg s) i)
-    × (n ≡ length (endsBelow s list tolerance i))
-    × (ends ≡ sets ends₀ 0 (endsBelow s list tolerance i))
+    × (from ≡ sum_below (leg s) i)
+    × (n ≡ length (ends_below s list tolerance i))
+    × (ends ≡ sets ends₀ 0 (ends_below s list tolerance i))
     × (length places ≡ 771)
 
 abbrev decreases-loop : tie.decreases-loop
@@ -32,7 +32,7 @@ put-end-requires : tie.Need-put-end-requires invariant-loop decreases-loop
 put-end-requires c κs = omega arith
 
 loop-holds : tie.Need-loop-init invariant-loop decreases-loop
-unfolding sumBelow endsBelow
+unfolding sum_below ends_below
 loop-holds c =
     let p = c.before.before.put-end in let out = c.before.before.before.before.before.before.args.ends.now in
     (omega arith, refl, p.ensures.0, p.ensures.1 ∙ sym (set-set out 0 0 0) ∙ ap (λ x. set x 0 0) (sym p.ensures.1), refl)
@@ -59,17 +59,17 @@ module _ (c : tie.At-loop invariant-loop decreases-loop) where
   -- in the loop
   module _ (more : i < start.args.legs) where
     fits : i < legsOf sheet
-    fits = omega (arith, on-course.is-legs)
+    fits = omega (arith, on-course.is_legs)
 
-    on-leg : OnLegOf sheet i c.loop.from c.loop.n
-    on-leg = record {
-      leg-fits = fits;
+    on_leg : OnLegOf sheet i c.loop.from c.loop.n
+    on_leg = record {
+      leg_fits = fits;
       starts = c.loop.invariant.1;
-      counted = omega (arith, c.loop.invariant.1, c.loop.invariant.2, few-below sheet on-course.accepted list tolerance i (omega (arith, fits)));
+      counted = omega (arith, c.loop.invariant.1, c.loop.invariant.2, few_below sheet on-course.accepted list tolerance i (omega (arith, fits)));
     }
 
 leg-length-requires : tie.Need-leg-length-requires invariant-loop decreases-loop
-leg-length-requires c κs = let l = c.before in leg-room (fitting (on-course l) (i l) (fits l (omega arith)))
+leg-length-requires c κs = let l = c.before in leg_room (fitting (on-course l) (i l) (fits l (omega arith)))
 
 slice-aggregate-leg-ends : tie.Need-slice-aggregate-leg-ends invariant-loop decreases-loop
 slice-aggregate-leg-ends c = search rules
@@ -77,13 +77,13 @@ slice-aggregate-leg-ends c = search rules
 leg-ends-requires : tie.Need-leg-ends-requires invariant-loop decreases-loop
 leg-ends-requires c κs =
     let l = c.before.before.before.before in
-    ((on-course l, on-leg l (omega arith)), (c.before.before.leg-length.ensures, l.loop.invariant.4))
+    ((on-course l, on_leg l (omega arith)), (c.before.before.leg-length.ensures, l.loop.invariant.4))
 
 add-from : tie.Need-overflow-add-from invariant-loop decreases-loop
 add-from c =
     let l = c.before.before.before.before.before.before.before.before in
     let fit = fits l (omega arith) in
-    omega (arith, l.loop.invariant.1, c.before.before.before.before.before.before.leg-length.ensures, leg-ends-by (sheet l) (on-course l).accepted (i l) fit)
+    omega (arith, l.loop.invariant.1, c.before.before.before.before.before.before.leg-length.ensures, leg_ends_by (sheet l) (on-course l).accepted (i l) fit)
 
 add-i : tie.Need-overflow-add-i invariant-loop decreases-loop
 add-i c = let l = c.before.before.before.before.before.before.before.before in omega arith
@@ -93,9 +93,9 @@ loop-less c = let l = c.before.before.before.before.before.before.before.before 
 
 loop-again : tie.Need-loop-preserved invariant-loop decreases-loop
 loop-again c =
-    let l = c.before.before.before.before.before.before.before.before in let k = c.before.before.before.leg-ends in
-    let x = endsBelow (sheet l) (list l) (tolerance l) (i l) in let y = legEnds (sheet l) (list l) (tolerance l) (i l) in
-    let step = ends-step (sheet l) (list l) (tolerance l) (i l) in
+    let l = c.before.before.before.before.before.before.before.before in let k = c.before.before.before.leg_ends in
+    let x = ends_below (sheet l) (list l) (tolerance l) (i l) in let y = leg_ends (sheet l) (list l) (tolerance l) (i l) in
+    let step = ends_step (sheet l) (list l) (tolerance l) (i l) in
     let first = l.before.before.before.put-end.new.0 in (
       omega arith,
       (λ j. l.loop.invariant.1 j + c.before.before.before.before.before.before.leg-length.ensures j) ∙ sym (sum_step (leg (sheet l)) (i l)),
@@ -107,15 +107,15 @@ loop-again c =
 same_length : tie.Need-same-length invariant-loop decreases-loop
 same_length c =
     let l = c.before in let p = l.before.before.before.put-end in
-    ap length l.loop.invariant.3 ∙ length-sets p.new.0 0 (endsBelow (sheet l) (list l) (tolerance l) (i l)) ∙ p.auto.0
+    ap length l.loop.invariant.3 ∙ length-sets p.new.0 0 (ends_below (sheet l) (list l) (tolerance l) (i l)) ∙ p.auto.0
 
 returns : tie.Need-returns invariant-loop decreases-loop
 returns c =
     let l = c.before in let p = l.before.before.before.put-end in let out = (start l).args.ends.now in
-    let e : i l ≡ legsOf (sheet l) = omega (arith, (on-course l).is-legs) in
-    let ends = ap (endsBelow (sheet l) (list l) (tolerance l)) e in (
+    let e : i l ≡ legsOf (sheet l) = omega (arith, (on-course l).is_legs) in
+    let ends = ap (ends_below (sheet l) (list l) (tolerance l)) e in (
       l.loop.invariant.2 ∙ ap length ends,
-      l.loop.invariant.3 ∙ (λ j. sets (p.ensures.1 j) 0 (ends j)) ∙ first-again (sheet l) (list l) (tolerance l) out (legsOf (sheet l)),
+      l.loop.invariant.3 ∙ (λ j. sets (p.ensures.1 j) 0 (ends j)) ∙ first_again (sheet l) (list l) (tolerance l) out (legsOf (sheet l)),
     )
 
 pub course-ends-spec : {M : Type 1} → statement M

@@ -9,10 +9,10 @@ use lib.ListN.{length}
 use lib.Seq.{sets}
 use Rattle.sheet.specs.Fields.{legs, leg}
 use Rattle.stretch.specs.Asked.{Stretch, Counted, tabled}
-use Rattle.stretch.specs.Stretches.{kept, endsBy, endsOf}
+use Rattle.stretch.specs.Stretches.{kept, ends_by, ends_of}
 use Rattle.strokes.specs.Asked.{OnCourse, OnLegOf, Table}
-use Rattle.strokes.specs.Strokes.{placesOn, legEnds}
-use Rattle.strokes.proofs.LegByLeg.{fitting, within, small, leg-low, leg-high, leg-ends-by}
+use Rattle.strokes.specs.Strokes.{places_on, leg_ends}
+use Rattle.strokes.proofs.LegByLeg.{fitting, within, small, leg_low, leg_high, leg_ends_by}
 use Rattle.strokes.proofs.Tables.{ends_same}
 use Rattle.strokes.proofs.leg.leg_ends.Statement.{statement}
 use Rattle.strokes.proofs.leg.leg_ends.Tie as tie
@@ -30,11 +30,11 @@ module _ (s : tie.Start) where
   on-course : OnCourse sheet list s.args.points s.args.legs s.args.tolerance
   on-course = s.pre.0.0
 
-  on-leg : OnLegOf sheet i s.args.from s.args.n
-  on-leg = s.pre.0.1
+  on_leg : OnLegOf sheet i s.args.from s.args.n
+  on_leg = s.pre.0.1
 
   fits : i < legs sheet
-  fits = on-leg.leg-fits
+  fits = on_leg.leg_fits
 
   h-is : s.args.h ≡ leg sheet i
   h-is = s.pre.1.0
@@ -55,29 +55,29 @@ module _ (c : tie.After-put-table) where
   abbrev places : List ℤ
   places = c.put-table.new.1.1.1.1.1.1.0
 
-  table : Table places h (placesOn (sheet start) (list start) (i start))
+  table : Table places h (places_on (sheet start) (list start) (i start))
   table = c.put-table.ensures
 
   stretch : Stretch places start.args.tolerance 0 h
   stretch = record {
     table = omega (arith, c.put-table.auto.1.1.1.1.1.1.0, start.pre.1.1);
     fine = (on-course start).fine;
-    some = omega (arith, h-is start, leg-low (on-course start) (i start) (fits start));
-    within = omega (arith, h-is start, leg-high (on-course start) (i start) (fits start));
+    some = omega (arith, h-is start, leg_low (on-course start) (i start) (fits start));
+    within = omega (arith, h-is start, leg_high (on-course start) (i start) (fits start));
     small = λ axis u k on. rw (table.at_offset axis u k (omega arith)) (small (on-course start) (i start) (fits start) axis u k (omega (arith, h-is start)));
   }
 
   counted : Counted start.args.from 0 h start.args.n
   counted =
-      let o = on-leg start in let e = leg-ends-by (sheet start) (on-course start).accepted (i start) (fits start) in
+      let o = on_leg start in let e = leg_ends_by (sheet start) (on-course start).accepted (i start) (fits start) in
       record { tick = omega (arith, h-is start); count = omega (arith, h-is start) }
 
   -- the strokes by the table are those by the places
-  ends-are : endsOf start.args.tolerance (tabled places) start.args.from 0 h ≡ legEnds (sheet start) (list start) start.args.tolerance (i start)
+  ends-are : ends_of start.args.tolerance (tabled places) start.args.from 0 h ≡ leg_ends (sheet start) (list start) start.args.tolerance (i start)
   ends-are =
-      let t = start.args.tolerance in let x = placesOn (sheet start) (list start) (i start) in
+      let t = start.args.tolerance in let x = places_on (sheet start) (list start) (i start) in
       ends_same t h (tabled places) x table.at_offset start.args.from h 0 h (omega arith)
-      ∙ (λ j. endsBy (kept t x) ((on-leg start).starts j) (h-is start j) 0 (h-is start j))
+      ∙ (λ j. ends_by (kept t x) ((on_leg start).starts j) (h-is start j) 0 (h-is start j))
 
 cut-requires : tie.Need-cut-requires
 cut-requires c κs = let k = c.before.before.before in (stretch k, counted k)

@@ -8,7 +8,7 @@ use lib.IntN.{ℤ, nat_abs}
 use Rattle.integers.proofs.Made.{given, read, read_back}
 use Rattle.sheet.specs.Fields.{leg, waypoint}
 use Rattle.spline.specs.Position.{position}
-use Rattle.place.specs.Places.{end_of, bendOf, placeOn}
+use Rattle.place.specs.Places.{end_of, bend_of, place_on}
 use Rattle.place.specs.Asked.{OnLeg}
 use Rattle.place.proofs.Fitting.{numbers_fit}
 use Rattle.strokes.proofs.leg.put_places.Statement.{statement}
@@ -30,14 +30,14 @@ module _ (s : tie.Start) where
   abbrev end : ℕ
   end = end_of sheet i
 
-  axis-fits : axis < 3
-  axis-fits = s.pre.1.1.1.0
+  axis_fits : axis < 3
+  axis_fits = s.pre.1.1.1.0
 
-  fit : OnLeg (leg sheet i) 0 (waypoint sheet axis i) (waypoint sheet axis end) (bendOf sheet list axis i) (bendOf sheet list axis end)
-  fit = numbers_fit s.pre.0 s.pre.1.0 axis axis-fits (omega (arith, s.pre.1.1.0))
+  fit : OnLeg (leg sheet i) 0 (waypoint sheet axis i) (waypoint sheet axis end) (bend_of sheet list axis i) (bend_of sheet list axis end)
+  fit = numbers_fit s.pre.0 s.pre.1.0 axis axis_fits (omega (arith, s.pre.1.1.0))
 
 numbers-on-requires : tie.Need-numbers-on-requires
-numbers-on-requires c κs = let p = c.before.requires in (p.0, (p.1.1.0.0, p.1.1.0.1, axis-fits c.before))
+numbers-on-requires c κs = let p = c.before.requires in (p.0, (p.1.1.0.0, p.1.1.0.1, axis_fits c.before))
 
 -- the numbers read
 module _ (c : tie.After-numbers-on) where
@@ -53,11 +53,11 @@ module _ (c : tie.After-numbers-on) where
   w-is : read c.Numbers-on.result.w ≡ waypoint (sheet s) (axis s) (end s)
   w-is = read_back (given c.Numbers-on.ensures.1 (fit s).end tt)
 
-  z-is : read c.Numbers-on.result.z ≡ bendOf (sheet s) (list s) (axis s) (i s)
-  z-is = read_back (given c.Numbers-on.ensures.2 (fit s).start-bend tt)
+  z-is : read c.Numbers-on.result.z ≡ bend_of (sheet s) (list s) (axis s) (i s)
+  z-is = read_back (given c.Numbers-on.ensures.2 (fit s).start_bend tt)
 
-  y-is : read c.Numbers-on.result.y ≡ bendOf (sheet s) (list s) (axis s) (end s)
-  y-is = read_back (given c.Numbers-on.ensures.3 (fit s).end-bend tt)
+  y-is : read c.Numbers-on.result.y ≡ bend_of (sheet s) (list s) (axis s) (end s)
+  y-is = read_back (given c.Numbers-on.ensures.3 (fit s).end_bend tt)
 
 put-positions-requires : tie.Need-put-positions-requires
 put-positions-requires c κs =
@@ -68,7 +68,7 @@ same_length : tie.Need-same-length
 same_length c = search rules
 
 returns : tie.Need-returns
-unfolding placeOn
+unfolding place_on
 returns c =
     let p = c.before in let k = p.before.before.before.before.before.before in
     record {

@@ -8,7 +8,7 @@ use lib.IntN.{ℤ, pos, negsuc, nat_abs, ◌+ℤ◌}
 use lib.Signed.{non_neg}
 use mir.Syntax.{w64}
 use mir.Val.{SFits, Fits, to_z, of_z}
-use Rattle.integers.proofs.Machine.{fits-abs, back, fits-back}
+use Rattle.integers.proofs.Machine.{fits_abs, back, fits_back}
 use Rattle.writer.specs.Sheets.{bits32}
 use Rattle.writer.proofs.put.bits.Statement.{statement}
 use Rattle.writer.proofs.put.bits.Tie as tie
@@ -36,17 +36,17 @@ module _ (z : ℤ) (f : SFits w64 z) (h : nat_abs z < 2147483648) where
   is_sum : sum ≡ pos (moved z)
   is_sum = ap (λ (y : ℤ). y +ℤ pos 4294967296) (back refl f) ∙ moved_up z h
 
-  moved-fits : SFits w64 (pos (moved z))
-  moved-fits = fits-abs (pos (moved z)) (omega (arith, moved-small z h))
+  moved_fits : SFits w64 (pos (moved z))
+  moved_fits = fits_abs (pos (moved z)) (omega (arith, moved-small z h))
 
   sum_back : to_z w64 (of_z w64 sum) ≡ pos (moved z)
-  sum_back = back is_sum moved-fits
+  sum_back = back is_sum moved_fits
 
   cast : T (non_neg (to_z w64 (of_z w64 sum))) × Fits w64 (nat_abs (to_z w64 (of_z w64 sum)))
   cast = subst (λ (y : ℤ). T (non_neg y) × Fits w64 (nat_abs y)) (sym sum_back) (tt, record { fits = omega (arith, moved-small z h) })
 
 add-result : tie.Need-overflow-add-result
-add-result c = let z = c.args.z in fits-back (is_sum z c.ranges.z c.requires) (moved-fits z c.ranges.z c.requires)
+add-result c = let z = c.args.z in fits_back (is_sum z c.ranges.z c.requires) (moved_fits z c.ranges.z c.requires)
 
 cast-result : tie.Need-overflow-cast-result
 cast-result c = cast c.args.z c.ranges.z c.requires

@@ -2,7 +2,7 @@
 use mathlib.Core.Path.{◌≡◌}
 use Prim.Native.Nat.{◌+◌, ◌-◌}
 use native.Mathlib.Omega.{arith}
-use Rattle.writer.proofs.Over.{part-copied}
+use Rattle.writer.proofs.Over.{part_copied}
 use borrow.Author.Rules.{rules}
 use Rattle.writer.proofs.put.copy_part.Statement.{statement}
 use Rattle.writer.proofs.put.copy_part.Tie as tie
@@ -41,7 +41,7 @@ returns : tie.Need-returns
 returns c =
     let k = c.before.before in let s = k.before.before.before.before.before in let a = s.args in
     let i : a.from + a.count - a.from ≡ a.count = omega arith in let j : a.at + a.count - a.at ≡ a.count = omega arith in
-    part-copied a.s.now a.from a.out.now a.at a.count i j s.requires.0 s.requires.1 k.copy.ensures.1
+    part_copied a.s.now a.from a.out.now a.at a.count i j s.requires.0 s.requires.1 k.copy.ensures.1
 
 pub copy-part-spec : {M : Type 1} → statement M
 copy-part-spec =

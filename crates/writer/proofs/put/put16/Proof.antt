@@ -6,7 +6,7 @@ use native.Mathlib.Omega.{arith}
 use lib.ListN.{length-set}
 use Rattle.integers.proofs.Tried.{Tried, tried}
 use Rattle.writer.specs.Inside.{over}
-use Rattle.writer.proofs.Over.{two-stored}
+use Rattle.writer.proofs.Over.{two_stored}
 use borrow.Author.Rules.{rules}
 use Rattle.writer.proofs.put.put16.Statement.{statement}
 use Rattle.writer.proofs.put.put16.Tie as tie
@@ -35,7 +35,7 @@ same_length : tie.Need-same-length
 same_length c = search rules
 
 returns : tie.Need-returns
-returns c = let a = c.args in two-stored (a.x / 256 % 256) (a.x % 256) a.out.now a.at c.requires
+returns c = let a = c.args in two_stored (a.x / 256 % 256) (a.x % 256) a.out.now a.at c.requires
 
 pub put16-spec : {M : Type 1} → statement M
 put16-spec =

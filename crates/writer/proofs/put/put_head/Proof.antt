@@ -5,7 +5,7 @@ use Prim.Native.Nat.{ℕ, ◌+◌, ◌/◌, ◌%◌, ◌≤◌}
 use native.Mathlib.Omega.{arith}
 use Rattle.writer.specs.Sheets.{bytes16, bytes32}
 use Rattle.writer.specs.Inside.{over}
-use Rattle.writer.proofs.Over.{over-next}
+use Rattle.writer.proofs.Over.{over_next}
 use borrow.Author.Rules.{rules}
 use Rattle.writer.proofs.put.put_head.Statement.{statement}
 use Rattle.writer.proofs.put.put_head.Tie as tie
@@ -32,9 +32,9 @@ returns : tie.Need-returns
 returns c =
     let last = c.before.before in let mid = last.before.before.before.before in let first = mid.before.before.before.before in
     let s = first.before.before.before in let a = s.args in let l = a.out.now in
-    let up = mid.put16.ensures ∙ over-next l 0 (bytes32 a.size) (bytes16 (256 + a.kind)) first.put32.ensures refl (omega arith) in
+    let up = mid.put16.ensures ∙ over_next l 0 (bytes32 a.size) (bytes16 (256 + a.kind)) first.put32.ensures refl (omega arith) in
     last.put162.ensures
-    ∙ over-next l 0 (bytes32 a.size ++ bytes16 (256 + a.kind)) (bytes16 a.n) up refl (omega arith)
+    ∙ over_next l 0 (bytes32 a.size ++ bytes16 (256 + a.kind)) (bytes16 a.n) up refl (omega arith)
     ∙ ap (λ k. over (bytes32 a.size ++ (k ++ bytes16 a.n)) 0 l) (two a.kind s.requires.1)
 
 pub put-head-spec : {M : Type 1} → statement M

@@ -7,7 +7,7 @@ use lib.ListN.{length, take}
 use Rattle.writer.specs.Sheets.{bytes16}
 use Rattle.writer.specs.Inside.{over}
 use Rattle.writer.proofs.Over.{over_none}
-use Rattle.writer.proofs.Sections.{element-put, all-put}
+use Rattle.writer.proofs.Sections.{element_put, all_put}
 use borrow.Author.Rules.{rules}
 use Rattle.writer.proofs.put.put_legs.Statement.{statement}
 use Rattle.writer.proofs.put.put_legs.Tie as tie
@@ -49,7 +49,7 @@ loop-again c =
     let p = c.before.before in let l = p.before.before.before.before.loop in let a = p.before.before.before.before.before.before.before.args in (
       omega arith,
       p.put16.auto.0 ∙ l.invariant.1,
-      element-put bytes16 2 (λ x. refl) a.legs.now a.from a.out.now l.i 0 (omega arith) (omega arith) l.invariant.2 p.put16.ensures,
+      element_put bytes16 2 (λ x. refl) a.legs.now a.from a.out.now l.i 0 (omega arith) (omega arith) l.invariant.2 p.put16.ensures,
     )
 
 same_length : tie.Need-same-length invariant-loop decreases-loop
@@ -58,7 +58,7 @@ same_length c = search rules
 returns : tie.Need-returns invariant-loop decreases-loop
 returns c =
     let l = c.before.loop in let a = c.before.before.before.before.args in
-    all-put bytes16 2 (λ x. refl) a.legs.now a.from a.out.now l.i (omega arith) l.invariant.2
+    all_put bytes16 2 (λ x. refl) a.legs.now a.from a.out.now l.i (omega arith) l.invariant.2
 
 pub put-legs-spec : {M : Type 1} → statement M
 put-legs-spec =

@@ -6,17 +6,17 @@ use native.Mathlib.Omega.{arith}
 use lib.IntN.{ℤ, pos, nat_abs}
 use lib.ListN.{length, take, get_or}
 use Rattle.integers.proofs.Machine.{back}
-use Rattle.writer.specs.Sheets.{bytes32, bits32, numberBytes}
+use Rattle.writer.specs.Sheets.{bytes32, bits32, number_bytes}
 use Rattle.writer.specs.Inside.{over}
 use Rattle.writer.proofs.Over.{over_none}
-use Rattle.writer.proofs.Sections.{element-put, all-put}
+use Rattle.writer.proofs.Sections.{element_put, all_put}
 use borrow.Author.Rules.{rules}
 use Rattle.writer.proofs.put.put_numbers.Statement.{statement}
 use Rattle.writer.proofs.put.put_numbers.Tie as tie
 
 abbrev invariant-loop : tie.invariant-loop
 invariant-loop out₀ from numbers count i₀ out i =
-    (i ≤ count) × (length out ≡ length out₀) × (out ≡ over (flat_map numberBytes (take i numbers)) from out₀)
+    (i ≤ count) × (length out ≡ length out₀) × (out ≡ over (flat_map number_bytes (take i numbers)) from out₀)
 
 abbrev decreases-loop : tie.decreases-loop
 decreases-loop out₀ from numbers count i₀ out i = count - i
@@ -59,7 +59,7 @@ loop-again c =
     let is = b.bits.ensures ∙ ap bits32 (back {x = z} refl (record { sfits = b.before.bits-arg.given })) in (
       omega arith,
       p.put32.auto.0 ∙ l.invariant.1,
-      element-put numberBytes 4 (λ x. refl) a.numbers.now a.from a.out.now l.i (pos 0) (omega arith) (omega arith) l.invariant.2
+      element_put number_bytes 4 (λ x. refl) a.numbers.now a.from a.out.now l.i (pos 0) (omega arith) (omega arith) l.invariant.2
           (p.put32.ensures ∙ ap (λ n. over (bytes32 n) (a.from + 4 * l.i) l.out) is),
     )
 
@@ -69,7 +69,7 @@ same_length c = search rules
 returns : tie.Need-returns invariant-loop decreases-loop
 returns c =
     let l = c.before.loop in let a = c.before.before.before.args in
-    all-put numberBytes 4 (λ x. refl) a.numbers.now a.from a.out.now l.i (omega arith) l.invariant.2
+    all_put number_bytes 4 (λ x. refl) a.numbers.now a.from a.out.now l.i (omega arith) l.invariant.2
 
 pub put-numbers-spec : {M : Type 1} → statement M
 put-numbers-spec =
