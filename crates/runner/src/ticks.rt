@@ -2,7 +2,7 @@
 ghost use Rattle.std.specs.Prelude.{◌≡◌, ◌&&◌, ℕ, ◌+◌, ◌-◌, ◌*◌, ◌≤◌, ◌<◌, ltb, length, get_or};
 ghost use Rattle.sheet.specs.Bytes.{sum_below};
 ghost use Rattle.sheet.specs.Carried.{stride, Carried};
-ghost use Rattle.sheet.specs.Fields.{leg, ticks as sumOfLegs};
+ghost use Rattle.sheet.specs.Fields.{leg, ticks as sum_of_legs};
 ghost use Rattle.sheet.specs.Reading.{most_points};
 ghost use Rattle.runner.specs.Ticks.{IsRead, is_open, reduced, laps_in, at_lap, walk, spot_at, runner_at_tick, runner_at_tick_by, told_runner};
 
@@ -106,7 +106,7 @@ pub fn spot_at(
     tick: u64,
 ) -> Runner
     requires read { IsRead s.now kind legs }
-    requires ticks_value { (ticks ≡ sumOfLegs s.now) × Carried s.now legs sums.now }
+    requires ticks_value { (ticks ≡ sum_of_legs s.now) × Carried s.now legs sums.now }
     ensures { result ≡ spot_at s.now tick }
 {
     let here = reduced(kind, ticks, tick);

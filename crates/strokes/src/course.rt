@@ -1,7 +1,7 @@
 // The stroke ends of a whole course (H4), leg by leg, and whether a list has room for them (N22).
 ghost use Rattle.std.specs.Prelude.{◌≡◌, leb, length};
 ghost use Rattle.std.proofs.lemmas.List.Edits.{sets};
-ghost use Rattle.sheet.specs.Fields.{ticks as sumOfLegs};
+ghost use Rattle.sheet.specs.Fields.{ticks as sum_of_legs};
 ghost use Rattle.strokes.specs.Strokes.{stroke_ends};
 ghost use Rattle.strokes.specs.Asked.{OnCourse};
 
@@ -56,7 +56,7 @@ pub fn has_room(
     tolerance: u64,
     room: usize,
 ) -> bool
-    requires { OnCourse s.now list.now points legs tolerance × (ticks ≡ sumOfLegs s.now) }
+    requires { OnCourse s.now list.now points legs tolerance × (ticks ≡ sum_of_legs s.now) }
     ensures { result ≡ leb (length (stroke_ends s.now list.now tolerance)) room }
 {
     if ticks < room as u64 {

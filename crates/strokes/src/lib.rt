@@ -4,7 +4,7 @@ mod leg;
 
 ghost use Rattle.std.specs.Prelude.{◌≡◌, ◌+◌, length};
 ghost use Rattle.sheet.specs.Bytes.{any_below};
-ghost use Rattle.sheet.specs.Fields.{ticks as sumOfLegs};
+ghost use Rattle.sheet.specs.Fields.{ticks as sum_of_legs};
 ghost use Rattle.strokes.specs.Strokes.{grain_outside, stroke_ends, ink_or_ends, left_by, strokes_answer, drawn_into, told_strokes};
 ghost use Rattle.strokes.specs.Asked.{OnCourse, BendsAsked, bends_at};
 
@@ -53,7 +53,7 @@ fn draw(
     tolerance: u64,
     ends: &mut [u64],
 ) -> StrokesAnswer
-    requires { OnCourse s.now list.now points legs tolerance × (ticks ≡ sumOfLegs s.now) }
+    requires { OnCourse s.now list.now points legs tolerance × (ticks ≡ sum_of_legs s.now) }
     ensures told { told_strokes result ≡ ink_or_ends s.now list.now tolerance (length ends.old) }
     ensures ends { ends.new ≡ left_by (ink_or_ends s.now list.now tolerance (length ends.old)) (stroke_ends s.now list.now tolerance) ends.old }
 {

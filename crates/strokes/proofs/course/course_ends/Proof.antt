@@ -8,7 +8,7 @@ use lib.IntN.{ℤ}
 use lib.ListN.{length, set, length-append}
 use lib.Seq.{sets, set-set, length-sets}
 use Rattle.sheet.specs.Bytes.{sum_below}
-use Rattle.sheet.specs.Fields.{legs as legsOf, leg}
+use Rattle.sheet.specs.Fields.{legs as legs_of, leg}
 use Rattle.sheet.proofs.Below.{sum_step}
 use Rattle.place.proofs.Fitting.{leg_room}
 use Rattle.strokes.specs.Asked.{OnCourse, OnLegOf}
@@ -58,7 +58,7 @@ module _ (c : tie.At-loop invariant-loop decreases-loop) where
 
   -- in the loop
   module _ (more : i < start.args.legs) where
-    fits : i < legsOf sheet
+    fits : i < legs_of sheet
     fits = omega (arith, on-course.is_legs)
 
     on_leg : OnLegOf sheet i c.loop.from c.loop.n
@@ -112,10 +112,10 @@ same_length c =
 returns : tie.Need-returns invariant-loop decreases-loop
 returns c =
     let l = c.before in let p = l.before.before.before.put-end in let out = (start l).args.ends.now in
-    let e : i l ≡ legsOf (sheet l) = omega (arith, (on-course l).is_legs) in
+    let e : i l ≡ legs_of (sheet l) = omega (arith, (on-course l).is_legs) in
     let ends = ap (ends_below (sheet l) (list l) (tolerance l)) e in (
       l.loop.invariant.2 ∙ ap length ends,
-      l.loop.invariant.3 ∙ (λ j. sets (p.ensures.1 j) 0 (ends j)) ∙ first_again (sheet l) (list l) (tolerance l) out (legsOf (sheet l)),
+      l.loop.invariant.3 ∙ (λ j. sets (p.ensures.1 j) 0 (ends j)) ∙ first_again (sheet l) (list l) (tolerance l) out (legs_of (sheet l)),
     )
 
 pub course-ends-spec : {M : Type 1} → statement M

@@ -5,7 +5,7 @@ use borrow.Author.Rules.{rules}
 use borrow.Author.Tests.{le-leb}
 use lib.Dec.{leb}
 use lib.ListN.{length}
-use Rattle.sheet.specs.Fields.{legs as legsOf}
+use Rattle.sheet.specs.Fields.{legs as legs_of}
 use Rattle.strokes.specs.Strokes.{stroke_ends}
 use Rattle.strokes.proofs.LegByLeg.{few_below}
 use Rattle.strokes.proofs.course.has_room.Statement.{statement}
@@ -15,7 +15,7 @@ returns : tie.Need-returns
 returns c =
     let s = c.before.before in let a = s.args in
     sym (le-leb (length (stroke_ends a.s.now a.list.now a.tolerance)) a.room
-    (omega (arith, c.if1.true, s.requires.1, few_below a.s.now s.requires.0.accepted a.list.now a.tolerance (legsOf a.s.now) (omega arith))))
+    (omega (arith, c.if1.true, s.requires.1, few_below a.s.now s.requires.0.accepted a.list.now a.tolerance (legs_of a.s.now) (omega arith))))
 
 slice-aggregate-course-ends : tie.Need-slice-aggregate-course-ends
 slice-aggregate-course-ends c = search rules
