@@ -1,10 +1,12 @@
 // What every call after reading shares: its outcome, and the reader's refusal passed on (A8). For layout, runner, place, join, exports and output.
+#![tactic(auto)]
+
 ghost use Rattle.answers.specs.Answers.{Carries};
 
 use sheet::{Reading, Refusal};
 
 // A3, A7: done, or the refusal.
-#[derive(Drop)]
+#[derive(Clone, Copy)]
 pub enum Outcome {
     Done,
     Refused(Refusal),

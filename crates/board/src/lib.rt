@@ -1,5 +1,7 @@
 // The autopilot board (group B): the station's calls that it has, for sheets of up to 48 waypoints. In Rattle they are those of `calls`; here stands its C boundary
 // (include/board.h), crate boundary's functions at the board's limit. A slice is a pointer, then a length.
+#![tactic(auto)]
+
 mod calls;
 
 ghost use Rattle.std.specs.Prelude.{◌≡◌, length};

@@ -1,5 +1,7 @@
 // What the C boundaries of station and board share (exports, board): their calls on numbers and slices, with the largest N as first argument. Each function answers 0
 // or a number of group N, and writes its results only when it answers 0 and the lent slice has room for them.
+#![tactic(auto)]
+
 ghost use Rattle.std.specs.Prelude.{◌≡◌, [], ◌∷◌, length};
 ghost use Rattle.ends.specs.Ends.{kind_number};
 ghost use Rattle.sheet.specs.Answers.{told};

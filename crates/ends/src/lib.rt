@@ -1,9 +1,11 @@
 // The kinds of a course's ends (S4), and what is chosen by the kind alone (F2). For every crate that knows a course.
+#![tactic(auto)]
+
 ghost use Rattle.std.specs.Prelude.{◌≡◌, ◌≤◌};
 ghost use Rattle.ends.specs.Ends.{leg_count, least_points};
 
 // S4: in the order of their bytes.
-#[derive(Drop)]
+#[derive(Clone, Copy)]
 pub enum EndKind {
     Free,
     Held,

@@ -1,5 +1,7 @@
 // The station's C boundary (include/station.h): the station's calls on numbers and slices, six of them crate boundary's. A slice is a pointer, then a length. Each
 // function answers 0 or a number of group N, and writes its results only when it answers 0 (Q3's turn excepted) and the lent slice has room for them.
+#![tactic(auto)]
+
 ghost use Rattle.std.specs.Prelude.{◌≡◌, [], ◌∷◌, length};
 ghost use Rattle.sheet.specs.Answers.{told};
 ghost use Rattle.sheet.specs.Reading.{most_points, read_sheet};

@@ -1,4 +1,6 @@
 // A fleet's round (A14, group Q): the seat whose turn it is flies on by a tick where its record lies, and the turn goes to the next seat. For the C boundary too.
+#![tactic(auto)]
+
 mod numbers;
 mod pair;
 

@@ -9,7 +9,7 @@ use runner::Runner;
 use seat::RoundAnswer;
 
 // The two records after a round, and the round's answer.
-#[derive(Drop)]
+#[derive(Clone, Copy)]
 pub struct PairOutcome {
     pub pair: [Runner; 2],
     pub answer: RoundAnswer,

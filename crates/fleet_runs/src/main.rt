@@ -1,5 +1,7 @@
 // A fleet's rounds on course A and on the closed course W7 (W18), a line to a call: the place or the refusal's number, the turn that is given, and the records
 // afterwards. Seats that land, are adrift or come to a bad bend number are among them, and calls that no seat is asked for.
+#![tactic(auto)]
+
 use answers::Outcome;
 use fleet::{PairOutcome, round_numbers, round_pair};
 use libc::STDOUT_FILENO;

@@ -1,6 +1,8 @@
 // W11: the station's bend numbers beside those of a second program, which eliminates in floats. Sheets come on standard input, one after another: the
 // worked courses. Many more are made here. For each end kind one line says how many sheets were compared, how far a bend number Z lies at most from
 // 65,536 times its bend in floats, in eighths, rounded up to thousandths, and whether all are within nine eighths (L6).
+#![tactic(auto)]
+
 mod elimination;
 mod rows;
 mod sheets;
@@ -17,7 +19,7 @@ use sheet::Reading;
 const MADE: u64 = 1000;
 
 // What was seen of one kind of sheets.
-#[derive(Drop)]
+#[derive(Clone, Copy)]
 struct Seen {
     sheets: u64,
     largest: f64,

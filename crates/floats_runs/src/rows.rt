@@ -27,7 +27,7 @@ fn number(s: &[u8], at: usize) -> f64
 }
 
 // What a sheet's head tells.
-#[derive(Drop)]
+#[derive(Clone, Copy)]
 pub struct Course {
     pub kind: EndKind,
     pub points: usize,

@@ -2,7 +2,7 @@
 ghost use Rattle.std.specs.Prelude.{◌+◌, ◌*◌, ◌<◌, ◌≤◌, length};
 
 // A made sheet's length, and where the drawing goes on.
-#[derive(Drop)]
+#[derive(Clone, Copy)]
 pub struct Made {
     pub length: usize,
     pub seed: u64,
@@ -33,7 +33,7 @@ fn put_number(sheet: &mut [u8], at: usize, x: u64, below: u64)
 }
 
 // How far below 0 and above it a number may lie.
-#[derive(Drop)]
+#[derive(Clone, Copy)]
 struct Span {
     below: u64,
     above: u64,

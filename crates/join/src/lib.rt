@@ -1,4 +1,6 @@
 // Two sheets joined into one (group J), written into a lent slice. For exports.
+#![tactic(auto)]
+
 mod put;
 mod shared;
 

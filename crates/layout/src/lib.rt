@@ -1,4 +1,6 @@
 // Laying out a sheet's bend numbers into a lent list (group L): each axis through its own part, by forty passes.
+#![tactic(auto)]
+
 mod pass;
 mod row;
 

@@ -10,7 +10,7 @@ ghost use Rattle.layout.specs.Inside.{OnSheet, AtEnd, Inner, code_row, RowOfEnd,
 use ends::EndKind;
 
 // A row's two outer factors, its middle factor and its right side.
-#[derive(Drop)]
+#[derive(Clone, Copy)]
 pub struct Row {
     pub before: i64,
     pub middle: i64,
@@ -19,7 +19,7 @@ pub struct Row {
 }
 
 // The row of the first or the last waypoint: free ends have none (R3).
-#[derive(Drop)]
+#[derive(Clone, Copy)]
 pub enum EndRow {
     Absent,
     Present(Row),

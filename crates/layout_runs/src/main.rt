@@ -1,4 +1,6 @@
 // Lays out the worked courses (W1 to W7, W9), two mixed ones and a long chain, and writes each lent list as it is left: the bend numbers, then 7s.
+#![tactic(auto)]
+
 ghost use Rattle.std.specs.Prelude.{◌<◌};
 
 use libc::STDOUT_FILENO;

@@ -1,4 +1,6 @@
 // One line of the stand's output (T3), put into a lent buffer, so that many lines are written at once.
+#![tactic(auto)]
+
 ghost use Rattle.std.specs.Prelude.{◌≡◌, [], ◌∷◌, ◌++◌, ◌+◌, ◌≤◌, ◌<◌, length, take};
 ghost use Rattle.lines.specs.Lines.{decimal, signed, line};
 

@@ -1,4 +1,6 @@
 // The stand's output in pieces, each put into a lent buffer: the header or a refusal's line, then the lines of successive ticks (T1 to T4). For the stand.
+#![tactic(auto)]
+
 ghost use Rattle.std.specs.Prelude.{◌≡◌, ◌⊎◌, ◌+◌, ◌-◌, ◌≤◌, ◌<◌, length, take};
 ghost use Rattle.output.specs.Output.{lines_from, lent_list, output};
 ghost use Rattle.words.specs.Words.{refusal_line};
@@ -8,7 +10,7 @@ use answers::Outcome;
 use sheet::{LONGEST_SHEET, Reading, Refusal};
 
 // The bytes of a piece, and the ticks whose lines come after it: `next` to before `end`.
-#[derive(Drop)]
+#[derive(Clone, Copy)]
 pub struct Piece {
     pub bytes: usize,
     pub next: u64,

@@ -10,7 +10,7 @@ use runner::Runner;
 use sheet::waypoint_on;
 
 // P1's numbers of a leg on one axis: the waypoints at its two ends, and their bend numbers.
-#[derive(Drop)]
+#[derive(Clone, Copy)]
 pub struct LegNumbers {
     pub v: i64,
     pub w: i64,

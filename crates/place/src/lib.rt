@@ -1,4 +1,6 @@
 // The place by tick and the place by runner (group P). For the fleet too, which asks for the place of a seat, and for strokes, which go along the places of a leg.
+#![tactic(auto)]
+
 mod axis;
 mod bends;
 pub mod position;
@@ -16,13 +18,13 @@ use runner::Runner;
 use sheet::{MOST_POINTS, Reading, Refusal, SUMS};
 
 // P2, F1: north, east, up.
-#[derive(Drop)]
+#[derive(Clone, Copy)]
 pub struct Place {
     pub at: [i64; 3],
 }
 
 // The answer beside the place, since an enum cannot hold the array. A refusal has zeros in the place.
-#[derive(Drop)]
+#[derive(Clone, Copy)]
 pub struct Placed {
     pub outcome: Outcome,
     pub place: Place,

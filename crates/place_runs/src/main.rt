@@ -1,5 +1,7 @@
 // Places on the worked courses, a line to a call: every tick of W1 to W9 with the bend numbers that `lay_out` leaves, 12's limits, and refused calls, which
 // leave zeros in the place. `stdout` was worked out from the requirements by a program of its own.
+#![tactic(auto)]
+
 use answers::Outcome;
 use libc::STDOUT_FILENO;
 use place::{Placed, place_at_tick, place_of_runner};

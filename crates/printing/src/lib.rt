@@ -1,4 +1,6 @@
 // Signed numbers in decimal on standard output, for the programs that show what the library answers.
+#![tactic(auto)]
+
 ghost use Rattle.std.specs.Prelude.{◌≡◌, nat_abs};
 
 use libc::STDOUT_FILENO;

@@ -1,5 +1,7 @@
 // Rounding division (L4) in the form F5: quotient and remainder of signed division, the remainder deciding, for every numerator and
 // every divisor above 0; no sign is branched on. For layout and place.
+#![tactic(auto)]
+
 ghost use Rattle.std.specs.Prelude.{cond, ◌≡◌, pos, nat_abs, ◌*ℤ◌, ◌≤ℤ◌};
 ghost use Rattle.std.specs.Int.Signed.{lt_z};
 ghost use Rattle.rounding.specs.Rounded.{rounded};

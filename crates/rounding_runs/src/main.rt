@@ -1,6 +1,8 @@
 // Runs `rounded` and writes a line `n d result` for each pair: the halves of W1 to W3 (5.5, -5.5, -39,321.5), multiples, numbers
 // just below, at and above a half on both sides of zero, and the ends of i64. The pairs lie in an array that a loop reads,
 // so that the division is done when the program runs and not when it is compiled.
+#![tactic(auto)]
+
 use libc::STDOUT_FILENO;
 use printing::print_signed;
 use rounding::rounded;
@@ -13,7 +15,7 @@ const MOST: i64 = 9223372036854775807;
 const EVEN: i64 = 9223372036854775806;
 
 // A numerator and a divisor
-#[derive(Drop)]
+#[derive(Clone, Copy)]
 struct Pair(i64, i64);
 
 fn show(p: Pair) {

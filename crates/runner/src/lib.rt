@@ -1,4 +1,6 @@
 // Ticks and runners (P3, P4, group M): the runner from a tick, the step, and back. For place, the fleet and the C boundary.
+#![tactic(auto)]
+
 mod backs;
 mod records;
 mod steps;
@@ -11,7 +13,7 @@ pub use steps::{is_adrift, is_landed, moved, onward_by, step, step_record, stepp
 pub use ticks::{is_past, runner_at_tick, runner_at_tick_by, spot_at};
 
 // M1: which leg, the first being 0, how many ticks along it, and the laps flown.
-#[derive(Drop)]
+#[derive(Clone, Copy)]
 pub struct Runner {
     pub leg: u64,
     pub offset: u64,
@@ -19,7 +21,7 @@ pub struct Runner {
 }
 
 // A runner, or the refusal.
-#[derive(Drop)]
+#[derive(Clone, Copy)]
 pub enum RunnerAnswer {
     At(Runner),
     Refused(Refusal),

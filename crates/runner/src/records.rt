@@ -7,7 +7,7 @@ use crate::{Runner, RunnerAnswer};
 use answers::Outcome;
 
 // The runner, moved or as it was, and the outcome.
-#[derive(Drop)]
+#[derive(Clone, Copy)]
 pub struct RunnerOutcome {
     pub at: Runner,
     pub outcome: Outcome,

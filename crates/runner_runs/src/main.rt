@@ -1,6 +1,8 @@
 // Runners on six sheets, a line to a case: the runner at each tick up to P + 1, steps three times round the closed courses and past the end of the
 // open ones and as many backs and more, the last of the unsigned 64-bit ticks, runners that are adrift, have landed or are at the start, laps up to the largest count,
 // and a sheet that is torn. Each step and each back is made on a lent record. `stdout` was worked out from the requirements by a program of its own.
+#![tactic(auto)]
+
 ghost use Rattle.std.specs.Prelude.{◌≤◌, length};
 
 use answers::Outcome;

@@ -1,4 +1,6 @@
 // One seat's turn in a fleet's round (A14, group Q), by value. For the fleet, whose lent forms call it (F9).
+#![tactic(auto)]
+
 ghost use Rattle.std.specs.Prelude.{◌≡◌, cond, ◌<◌, eqb};
 ghost use Rattle.sheet.specs.Answers.{refused};
 ghost use Rattle.runner.specs.Steps.{moved};
@@ -16,21 +18,21 @@ use sheet::{Reading, Refusal};
 pub const MOST_SEATS: usize = 32;
 
 // Q3: the seat that has the next turn; none beside a refusal that is not a seat's own.
-#[derive(Drop)]
+#[derive(Clone, Copy)]
 pub enum NextTurn {
     Seat(u64),
     None,
 }
 
 // The seat's place or the refusal, and the turn beside it.
-#[derive(Drop)]
+#[derive(Clone, Copy)]
 pub struct RoundAnswer {
     pub placed: Placed,
     pub next: NextTurn,
 }
 
 // The seat's runner, moved or as it was, and the answer.
-#[derive(Drop)]
+#[derive(Clone, Copy)]
 pub struct SeatOutcome {
     pub at: Runner,
     pub answer: RoundAnswer,

@@ -10,7 +10,7 @@ use crate::limits::leg_outside;
 use crate::{STRIDE, SUMS};
 
 // The sum of some legs, and whether one of them is outside its limits. (32 bits are enough, and quicker than 64.)
-#[derive(Drop)]
+#[derive(Clone, Copy)]
 pub struct Legs {
     pub ticks: u32,
     pub outside: bool,

@@ -1,4 +1,6 @@
 // The course sheet and its reader (groups S, N, A): whatever bytes are handed over, they are read or refused. For every later crate.
+#![tactic(auto)]
+
 mod bytes;
 mod fields;
 mod legs;
@@ -24,7 +26,7 @@ pub const STRIDE: usize = 16;
 pub const SUMS: usize = 33;
 
 // The refusals, in the order of their numbers (N1 to N23).
-#[derive(Drop)]
+#[derive(Clone, Copy)]
 pub enum Refusal {
     Torn,
     Edition,
@@ -52,7 +54,7 @@ pub enum Refusal {
 }
 
 // A2: reading's answer, the kind, N and P; or its refusal.
-#[derive(Drop)]
+#[derive(Clone, Copy)]
 pub enum Reading {
     Course {
         kind: ends::EndKind,

@@ -45,7 +45,7 @@ fn longest_sheet() -> usize
 }
 
 // One side's three slopes (S8).
-#[derive(Drop)]
+#[derive(Clone, Copy)]
 struct Triple {
     north: i64,
     east: i64,

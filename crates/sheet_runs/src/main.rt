@@ -1,5 +1,7 @@
 // Runs the reader over sheets that are built here, and prints a line for each: its name, the number (0 where it is read) and the values.
 // The sheets at the limits (W10, W14), and each refusal alone and with each other one (A1). `stdout` was worked out separately.
+#![tactic(auto)]
+
 mod build;
 mod cases;
 mod tell;

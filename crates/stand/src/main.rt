@@ -1,4 +1,6 @@
 // The stand's program (T1 to T4): one sheet on standard input, its course or its refusal on standard output.
+#![tactic(auto)]
+
 ghost use Rattle.std.specs.Prelude.{◌≡◌, false, cond, ◌+◌, ◌≤◌, length};
 ghost use Rattle.output.specs.Output.{output};
 ghost use Rattle.output.specs.Pieces.{PartAt};
@@ -10,7 +12,7 @@ use sheet::LONGEST_SHEET;
 const MOST_BENDS: usize = 1536;
 
 // How many bytes of the output are handed over, and whether a write failed.
-#[derive(Drop)]
+#[derive(Clone, Copy)]
 struct Handed {
     bytes: usize,
     failed: bool,

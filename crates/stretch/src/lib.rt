@@ -1,4 +1,6 @@
 // The strokes of one leg (H1 to H3), by recursion over a stretch of it (F9); the leg's places stand in a table. For crate strokes.
+#![tactic(auto)]
+
 mod cuts;
 mod test;
 

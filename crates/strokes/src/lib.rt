@@ -1,4 +1,6 @@
 // Strokes for the tablet (A15, group H): a course as few straight strokes, told by the ticks at which they end. For the C boundary too.
+#![tactic(auto)]
+
 mod course;
 mod leg;
 
@@ -15,7 +17,7 @@ use sheet::{Reading, Refusal};
 pub const MOST_TOLERANCE: i64 = 1000;
 
 // A15: how many ends stand in the list, or the refusal.
-#[derive(Drop)]
+#[derive(Clone, Copy)]
 pub enum StrokesAnswer {
     Ends(usize),
     Refused(Refusal),

@@ -1,1 +1,2 @@
 // No code: the theory of row systems, for spline and station. See specs/Theorems.antt.
+#![tactic(auto)]

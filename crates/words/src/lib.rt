@@ -1,4 +1,6 @@
 // The line of each refusal (T4), whole, in one byte string (F6). For the stand's output.
+#![tactic(auto)]
+
 ghost use Rattle.std.specs.Prelude.{◌≡◌, ◌≤◌, length, take};
 ghost use Rattle.words.specs.Words.{refusal_line, refusal_rows};
 

@@ -1,4 +1,6 @@
 // Writing a sheet from its lists into a lent slice (group G). For exports, and for calls that make sheets.
+#![tactic(auto)]
+
 mod put;
 
 ghost use Rattle.std.specs.Prelude.{◌≡◌, length};
