@@ -10,7 +10,7 @@ use lib.IntN.{ℤ, pos, negsuc, neg_ℤ, nat_abs, ◌+ℤ◌, ◌-ℤ◌, ◌*�
 use lib.Dec.{ltb→lt}
 use lib.Signed.{mag, lt_z, quot_z, rem_z, ◌≤ℤ◌, lt_z_no, clash_ℤ, nat_abs-le}
 use mir.Syntax.{w64}
-use mir.Val.{SFits, of_z}
+use mir.Val.{SFits}
 use mir.ValLaws.{sfits_le}
 use Rattle.integers.proofs.Ring.{solve, ◌≋◌, ◌⊕◌, ◌⊖◌, ◌⊗◌, ⊝◌, #◌}
 use Rattle.integers.proofs.Order.{by_test, pos_le, le_pos, nonneg, abs_neg, abs_sub, le_or_lt}
@@ -35,7 +35,7 @@ rem_small (negsuc a) k h = rw (abs_neg (pos (suc a % k))) (mod-lt (suc a) h)
 fits_minus_by : (n : ℤ) (k : ℕ) → 1 ≤ k → SFits w64 (pos k) → SFits w64 (pos 0 -ℤ rem_z n (pos k))
 fits_minus_by n k h f = fits_abs (pos 0 -ℤ rem_z n (pos k)) (omega (arith, f.sfits, abs_sub (pos 0) (rem_z n (pos k)), rem_small n k h))
 
-pub quot_small : (n : ℤ) (k : ℕ) → mag (quot_z n (pos k)) ≤ mag n
+quot_small : (n : ℤ) (k : ℕ) → mag (quot_z n (pos k)) ≤ mag n
 quot_small (pos a) k = div-le_self a k
 quot_small (negsuc a) k = go (suc a / k) (div-le_self (suc a) k)
   where
@@ -71,7 +71,7 @@ module _ (k : ℕ) (h : 1 ≤ k) where
       ∙ solve 2 (λ a b. b ⊖ a ≋ ⊝ (a ⊖ b)) tt (up r (pos k)) (up (pos 0 -ℤ r) (pos k))
 
   -- signed: below zero all of it is the mirror of what it is above
-  pub step_is : (n : ℤ) → step (rem_z n (pos k)) (pos k) ≡ rounded (rem_z n (pos k)) k
+  step_is : (n : ℤ) → step (rem_z n (pos k)) (pos k) ≡ rounded (rem_z n (pos k)) k
   step_is (pos a) = step_above (a % k) (mod-lt a h)
   step_is (negsuc a) =
       let r = pos (suc a % k) in
@@ -93,14 +93,11 @@ module _ (k : ℕ) (h : 1 ≤ k) where
       (λ g. let e : k ≡ 1 = omega arith in rw e (fits_back (ap (λ x. rounded x 1) (solve 1 (λ n. n ≋ # 1 ⊗ n) tt n) ∙ rounded_exact n 1 (omega arith)) f))
 
 -- ---- for a divisor d above 0 of ℤ, as the code has it
-pub positive : (d : ℤ) → pos 1 ≤ℤ d → (P : ℤ → Type 0) → ((k : ℕ) → 1 ≤ k → P (pos k)) → P d
+positive : (d : ℤ) → pos 1 ≤ℤ d → (P : ℤ → Type 0) → ((k : ℕ) → 1 ≤ k → P (pos k)) → P d
 positive (pos k) p P f = f k (le_pos 1 k p)
 positive (negsuc k) p P f = absurd p.le
 
 module _ (n d : ℤ) (p : pos 1 ≤ℤ d) where
-  pub divisor_bits : 0 < of_z w64 d
-  divisor_bits = positive d p (λ d. 0 < of_z w64 d) (λ k h. h)
-
   pub fits_quot : SFits w64 n → SFits w64 (quot_z n d)
   fits_quot f = positive d p (λ d. SFits w64 (quot_z n d)) (λ k h. sfits_le (quot_small n k) f)
 
