@@ -3,7 +3,7 @@
 
 ghost use Rattle.std.specs.Prelude.{◌≡◌, nat_abs};
 
-use libc::STDOUT_FILENO;
+use std::io;
 
 // The size of a number, that of the least one too.
 pub fn magnitude(z: i64) -> u64
@@ -13,9 +13,6 @@ pub fn magnitude(z: i64) -> u64
 }
 
 // A minus where negative, then the digits.
-pub fn print_signed(z: i64) {
-    if z < 0 {
-        io::write_all(STDOUT_FILENO, b"-");
-    }
-    io::print_decimal(STDOUT_FILENO, magnitude(z));
+pub fn print_signed(rt: &impl Print, z: i64) -> io::Result<()> {
+    print!(rt; "{z}")
 }
