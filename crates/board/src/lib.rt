@@ -1,5 +1,5 @@
-// The autopilot board (group B): the station's calls that it has, for sheets of up to 48 waypoints. In Rattle they are those of `calls`; here stands its C boundary
-// (include/board.h), crate boundary's functions at the board's limit. A slice is a pointer, then a length.
+// The autopilot board (group B): the station's calls that it has, for sheets of up to 48 waypoints. In Rattle they are those of `calls`; here stands what its C
+// boundary hands out (include/board.h; crate board_c), crate boundary's functions at the board's limit.
 #![tactic(auto)]
 
 mod calls;
@@ -27,16 +27,14 @@ fn board_points() -> usize
 }
 
 // out = kind, N, P
-#[unsafe(no_mangle)]
-pub extern "C" fn board_read(sheet: &[u8], out: &mut [u64]) -> u64
+pub fn board_read(sheet: &[u8], out: &mut [u64]) -> u64
     ensures answer { result ≡ (told (read_by board_points sheet.now)).number }
     ensures out { out.new ≡ written_unsigned (told (read_by board_points sheet.now)) out.old }
 {
     boundary::read(BOARD_POINTS, sheet, out)
 }
 
-#[unsafe(no_mangle)]
-pub extern "C" fn board_lay_out(sheet: &[u8], list: &mut [i64]) -> u64
+pub fn board_lay_out(sheet: &[u8], list: &mut [i64]) -> u64
     ensures answer { result ≡ (lay_out_by board_points sheet.now (length list.old)).number }
     ensures list { list.new ≡ laid_out_by board_points sheet.now list.old }
 {
@@ -44,8 +42,7 @@ pub extern "C" fn board_lay_out(sheet: &[u8], list: &mut [i64]) -> u64
 }
 
 // out = north, east, up
-#[unsafe(no_mangle)]
-pub extern "C" fn board_place_at_tick(sheet: &[u8], list: &[i64], tick: u64, out: &mut [i64]) -> u64
+pub fn board_place_at_tick(sheet: &[u8], list: &[i64], tick: u64, out: &mut [i64]) -> u64
     ensures answer { result ≡ (place_at_tick_by board_points sheet.now list.now tick).number }
     ensures out { out.new ≡ written (place_at_tick_by board_points sheet.now list.now tick) out.old }
 {
@@ -53,8 +50,7 @@ pub extern "C" fn board_place_at_tick(sheet: &[u8], list: &[i64], tick: u64, out
 }
 
 // out = north, east, up
-#[unsafe(no_mangle)]
-pub extern "C" fn board_place_of_runner(
+pub fn board_place_of_runner(
     sheet: &[u8],
     list: &[i64],
     leg: u64,
@@ -69,8 +65,7 @@ pub extern "C" fn board_place_of_runner(
 }
 
 // out = leg, offset, laps
-#[unsafe(no_mangle)]
-pub extern "C" fn board_runner_at_tick(sheet: &[u8], tick: u64, out: &mut [u64]) -> u64
+pub fn board_runner_at_tick(sheet: &[u8], tick: u64, out: &mut [u64]) -> u64
     ensures answer { result ≡ (runner_at_tick_by board_points sheet.now tick).number }
     ensures out { out.new ≡ written_unsigned (runner_at_tick_by board_points sheet.now tick) out.old }
 {
@@ -78,8 +73,7 @@ pub extern "C" fn board_runner_at_tick(sheet: &[u8], tick: u64, out: &mut [u64])
 }
 
 // lent = leg, offset, laps, moved on in place
-#[unsafe(no_mangle)]
-pub extern "C" fn board_step(sheet: &[u8], lent: &mut [u64]) -> u64
+pub fn board_step(sheet: &[u8], lent: &mut [u64]) -> u64
     ensures answer { result ≡ (moved_slice board_points (stepped_by board_points) sheet.now lent.old).number }
     ensures lent { lent.new ≡ written_unsigned (moved_slice board_points (stepped_by board_points) sheet.now lent.old) lent.old }
 {
