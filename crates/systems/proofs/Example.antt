@@ -1,6 +1,6 @@
 -- A worked system, computed: x0 = 0; x0 + 4 x1 + x2 = 7; x1 + 4 x2 + x3 = -9; x3 = 0, the outer two without a row. It has all that the theorems ask for, and
 -- theorems are tried here before they are proved: what they would say of the system, or of a smaller one, is computed. Nothing rests on this file; Size and
--- Lists name it so that it is checked first.
+-- Lists name it so that it is checked first, by `pub use`: an import that nothing uses is tidied away.
 use mathlib.Core.Path.{◌≡◌, refl, ap}
 use mathlib.Core.List.{List, [], ◌∷◌}
 use mathlib.Core.Bool.{true, false, cond}

@@ -12,7 +12,7 @@ use Rattle.integers.proofs.Order.{le_or_lt}
 use Rattle.systems.specs.Rows.{Rows, Dominant}
 use Rattle.systems.specs.Passes.{at, target, renewed, turn, sweep, pass, passes}
 use Rattle.systems.specs.Theorems.{EarlyEnd}
-use Rattle.systems.proofs.Example as example
+pub use Rattle.systems.proofs.Example as example
 
 module _ (R : Rows) (c : ℕ) where
   -- ---- one turn

@@ -12,7 +12,7 @@ use Rattle.integers.proofs.Order.{abs_add, abs_sub, abs_mul, abs_zero}
 use Rattle.integers.proofs.Extremes.{Extreme, largest}
 use Rattle.systems.specs.Rows.{Row, row_sum, Rows, Dominant, Solves}
 use Rattle.systems.specs.Theorems.{SolutionBounded, Unique}
-use Rattle.systems.proofs.Example as example
+pub use Rattle.systems.proofs.Example as example
 
 -- a row in sizes: the unknown's part is at most the neighbours' parts and the right side together
 pub row_sizes : (w : Row) (p x q s : ℤ) → row_sum w p x q ≡ s → w.middle * nat_abs x ≤ w.before * nat_abs p + w.after * nat_abs q + nat_abs s
