@@ -16,7 +16,9 @@ fn put_decimal(out: &mut [u8], at: usize, n: u64) -> usize
 {
     let mut digits = [0u8; 20];
     let count = io::decimal(n, &mut digits);
-    at + bytes::copy(&digits[..count], &mut out[at..])
+    let end = at + count;
+    out[at..end].copy_from_slice(&digits[..count]);
+    end
 }
 
 fn put_byte(out: &mut [u8], at: usize, byte: u8) -> usize
