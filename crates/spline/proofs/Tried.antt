@@ -1,5 +1,5 @@
 -- What theorems would say of worked courses (Examples), computed before they are proved: a false one fails here, by its numbers. Nothing rests on this file;
--- Waypoints names it so that it is checked first.
+-- Waypoints names it so that it is checked first, by `pub use`: an import that nothing uses is tidied away.
 use mathlib.Core.Path.{refl}
 use Prim.Native.Nat.{◌≤◌}
 use lib.Dec.{lit≤}

@@ -9,7 +9,7 @@ use Rattle.ends.specs.Ends.{leg_count, least_points}
 use Rattle.ends.specs.declared.EndKind.{EndKind}
 use Rattle.ends.specs.declared.EndKind.TheVariants.{Free, Held, Closed}
 use Rattle.spline.specs.Spline.{Course, InBounds, legs, next, prev}
-use Rattle.spline.proofs.Tried as tried
+pub use Rattle.spline.proofs.Tried as tried
 
 -- by a test of equality
 pub by_equal : (m n : ℕ) {A : Type 0} (x y : A) (P : A → Type 0) → (m ≡ n → P x) → (¬ (m ≡ n) → P y) → P (cond (eqb m n) x y)
