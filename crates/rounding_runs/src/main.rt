@@ -3,9 +3,9 @@
 // so that the division is done when the program runs and not when it is compiled.
 #![tactic(auto)]
 
-use libc::STDOUT_FILENO;
 use printing::print_signed;
 use rounding::rounded;
+use std::io;
 
 // The ends of i64, and its largest even number
 const LEAST: i64 = -9223372036854775808;
@@ -18,18 +18,19 @@ const EVEN: i64 = 9223372036854775806;
 #[derive(Clone, Copy)]
 struct Pair(i64, i64);
 
-fn show(p: Pair) {
+fn show(rt: &impl Print, p: Pair) -> io::Result<()> {
     if 1 <= p.1 {
-        print_signed(p.0);
-        io::write_all(STDOUT_FILENO, b" ");
-        print_signed(p.1);
-        io::write_all(STDOUT_FILENO, b" ");
-        print_signed(rounded(p.0, p.1));
-        io::write_all(STDOUT_FILENO, b"\n");
+        print_signed(rt, p.0)?;
+        print!(rt; " ")?;
+        print_signed(rt, p.1)?;
+        print!(rt; " ")?;
+        print_signed(rt, rounded(p.0, p.1))?;
+        println!(rt)?;
     }
+    Ok(())
 }
 
-fn main() {
+fn main(rt: HostRuntime) -> io::Result<()> {
     let pairs = [
         Pair(11, 2),
         Pair(-11, 2),
@@ -65,6 +66,7 @@ fn main() {
         Pair(-4611686018427387904, EVEN),
     ];
     for i in 0..32 {
-        show(pairs[i]);
+        show(&rt, pairs[i])?;
     }
+    Ok(())
 }
