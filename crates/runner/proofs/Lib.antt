@@ -1,5 +1,5 @@
--- The worked moves; the walk along the legs; where a runner stands; the step, and any count of steps; back, and both together; then what the code rests on, a call's first step,
--- what a call's number tells, and the lent forms, walked by hand.
+-- The worked moves; the walk along the legs; where a runner stands; the step, and any count of steps; then what the code rests on, a call's first step and what a call's
+-- number tells; back, and both together.
 pub mod Worked
 pub mod Walk
 pub mod Standing
@@ -9,7 +9,3 @@ pub mod Entry
 pub mod Kept
 pub mod Backward
 pub mod Restored
-pub mod ByHand
-pub mod Forms
-pub mod Lent
-pub mod OnRecord

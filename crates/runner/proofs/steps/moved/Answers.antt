@@ -1,0 +1,74 @@
+-- `moved`: a runner that fits the sheet and has not landed is below its leg's length, so nothing wraps, and each way out is the definition's line for the tests
+-- passed on the way.
+use Rattle.std.proofs.Common.{◌≡◌, ◌+◌, ◌≤◌, ◌<◌, ◌∙◌, ℕ, suc, false, List, sym, ap, arith}
+use native.Mathlib.Numerals.{add-one}
+use borrow.Author.Tests.{lt-ltb, le-ltb}
+use Rattle.ends.specs.declared.EndKind.{EndKind}
+use Rattle.sheet.proofs.Laws.{accepted_bounds}
+use Rattle.sheet.specs.Fields.{kind, legs, leg}
+use Rattle.runner.specs.Ticks.{runner, at_lap, IsRead}
+use Rattle.runner.specs.Steps.{landed, adrift, last_step, moved}
+use Rattle.runner.specs.declared.Runner.{Runner}
+use Rattle.runner.proofs.Room.{room}
+use Rattle.runner.proofs.Standing.{standing, leg_below, offset_below}
+use Rattle.runner.proofs.steps.moved.Goals as goal
+
+-- on a leg of the sheet, below its length, which is at most 256
+record Going (s : List ℕ) (l : ℕ) (r : Runner) : Type 0 where
+  on : r.leg < l
+  below : r.offset < leg s r.leg
+  short : leg s r.leg ≤ 256
+
+going : (s : List ℕ) (k : EndKind) (l : ℕ) (r : Runner) → IsRead s k l → adrift s r ≡ false → landed s r ≡ false → Going s l r
+going s k l r is fits flying =
+    let st = standing s r fits in let on = leg_below s r st in
+    record {
+      on = omega (arith, is.is_legs);
+      below = offset_below s r st flying;
+      short = (accepted_bounds s is.accepted).leg_high r.leg on;
+    }
+
+next_offset : (r : Runner) → at_lap r.laps (runner r.leg (r.offset + 1)) ≡ at_lap r.laps (runner r.leg (suc r.offset))
+next_offset r = ap (λ u. at_lap r.laps (runner r.leg u)) (add-one r.offset)
+
+-- the last tick of the last leg, at a kind that the match has told
+past_last : (s : List ℕ) (r : Runner) (k : EndKind) → kind s ≡ k → leg s r.leg ≤ suc r.offset → legs s ≤ suc r.leg → last_step k r ≡ moved s r
+unfolding moved
+past_last s r k told end last =
+    ap (λ j. last_step j r) (sym told) ∙ simp (le-ltb (suc r.offset) (leg s r.leg) end, le-ltb (suc r.leg) (legs s) last)
+
+pub overflow_add-next : goal.overflow_add-next
+overflow_add-next c = let g = going _ _ _ _ c.requires.read c.requires.at_value c.requires.at_value_2 in record { fits = omega arith }
+
+pub leg_length-requires : goal.leg_length-requires
+leg_length-requires c =
+    let g = going _ _ _ _ c.requires.read c.requires.at_value c.requires.at_value_2 in let r = room _ _ _ c.requires.read in omega arith
+
+pub returns-then-next-leg_length : goal.returns-then-next-leg_length
+unfolding moved
+returns-then-next-leg_length c =
+    let s = c.args.s.now in let r = c.args.at in next_offset r ∙ simp (lt-ltb (suc r.offset) (leg s r.leg) (omega arith))
+
+pub overflow_add-leg : goal.overflow_add-leg
+overflow_add-leg c =
+    let g = going _ _ _ _ c.requires.read c.requires.at_value c.requires.at_value_2 in let r = room _ _ _ c.requires.read in record { fits = omega arith }
+
+pub returns-then-leg-legs : goal.returns-then-leg-legs
+unfolding moved
+returns-then-leg-legs c =
+    let s = c.args.s.now in let r = c.args.at in
+    ap (λ i. at_lap r.laps (runner i 0)) (add-one r.leg)
+    ∙ simp (le-ltb (suc r.offset) (leg s r.leg) (omega arith), lt-ltb (suc r.leg) (legs s) (omega (arith, c.requires.read.is_legs)))
+
+pub returns-in-Free : goal.returns-in-Free
+returns-in-Free c =
+    next_offset c.args.at ∙ past_last _ _ _ (sym c.requires.read.is_kind ∙ c.in-Free.is) (omega arith) (omega (arith, c.requires.read.is_legs))
+
+pub returns-in-Held : goal.returns-in-Held
+returns-in-Held c =
+    next_offset c.args.at ∙ past_last _ _ _ (sym c.requires.read.is_kind ∙ c.in-Held.is) (omega arith) (omega (arith, c.requires.read.is_legs))
+
+pub returns-in-Closed : goal.returns-in-Closed
+returns-in-Closed c =
+    ap (λ l. at_lap l (runner 0 0)) c.next_lap.ensures
+    ∙ past_last _ _ _ (sym c.requires.read.is_kind ∙ c.in-Closed.is) (omega arith) (omega (arith, c.requires.read.is_legs))
