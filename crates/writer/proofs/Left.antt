@@ -1,5 +1,4 @@
 -- What a call leaves in the slice (specs/Writing), from its answer: a refusal all of it, the answered length the sheet and what stood behind it.
--- (The worked sheet is named so that it is checked first.)
 use mathlib.Core.Path.{◌≡◌, sym, ap, ◌∙◌}
 use mathlib.Core.List.{List, ◌++◌}
 use Prim.Native.Nat.{ℕ, ◌≤◌}
@@ -17,7 +16,6 @@ use Rattle.lists.specs.Inside.{Writable}
 use Rattle.writer.specs.Inside.{over}
 use Rattle.lists.specs.declared.Written.TheVariants.{Length}
 use Rattle.writer.proofs.Parts.{long}
-use Rattle.writer.proofs.Worked as worked
 use Rattle.lists.proofs.Tests.{Unrefused, unrefused, answered, writable}
 
 module _ (c : Lists) (out : List ℕ) where

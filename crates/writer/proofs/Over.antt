@@ -5,8 +5,8 @@ use Prim.Native.Nat.{ℕ, suc, ◌+◌, ◌≤◌}
 use native.Mathlib.Nat.{add-zero}
 use native.Mathlib.Numerals.{add-one}
 use native.Mathlib.Omega.{arith}
-use lib.ListN.{length, take, drop, set, length-append, length-drop, take-append-drop, drop_of_length-le}
-use lib.Seq.{sets-eq, take_at, take-length, drop_at, drop-drop, length-take-le}
+use lib.ListN.{length, take, drop, set, length-append, length-drop, take-append-drop}
+use lib.Seq.{sets-eq, take_at, drop_at, drop-drop, length-take-le}
 use Rattle.writer.specs.Inside.{over}
 
 module _ (l : List ℕ) (at : ℕ) where
@@ -40,18 +40,12 @@ module _ (s : List ℕ) (from : ℕ) (l : List ℕ) (at k : ℕ) {i j : ℕ} (is
   abbrev source : List ℕ
   source = take i (drop from s)
 
-  abbrev target : List ℕ
-  target = take j (drop at l)
-
-  -- what a copy leaves in the target, put back
-  pub part_copied : from + k ≤ length s → at + k ≤ length l → {part : List ℕ} → part ≡ take (length source) source ++ drop (length source) target
-      → take at l ++ (part ++ drop j (drop at l)) ≡ over (take k (drop from s)) at l
+  -- where they stand in place of as many, put back
+  pub part_copied : from + k ≤ length s → {part : List ℕ} → part ≡ source → take at l ++ (part ++ drop j (drop at l)) ≡ over (take k (drop from s)) at l
   unfolding over
-  part_copied h room e =
+  part_copied h e =
       let long = length-take-le i (drop from s) (omega (arith, length-drop from s)) in
-      let wide = length-take-le j (drop at l) (omega (arith, length-drop at l)) in
-      let none = drop_of_length-le target {i = length source} (omega arith) in
-      let whole = e ∙ (λ z. take-length source z ++ none z) ∙ append-nil source ∙ ap (λ n. take n (drop from s)) is in
+      let whole = e ∙ ap (λ n. take n (drop from s)) is in
       let end : at + j ≡ at + length (take k (drop from s)) = omega (arith, ap (λ n. length (take n (drop from s))) is) in
       (λ z. take at l ++ (whole z ++ (drop-drop j at l ∙ ap (λ n. drop n l) end) z))
       ∙ sym (append_assoc (take at l) (take k (drop from s)) (drop (at + length (take k (drop from s))) l))

@@ -7,7 +7,7 @@ use native.Mathlib.Numerals.{add-one}
 use native.Mathlib.Omega.{arith}
 use lib.IntN.{ℤ, pos, nat_abs}
 use lib.ListN.{length, get_or, take, drop, length-append, get_or-append}
-use lib.Seq.{get_or-append-add, take-suc, take-length, length-take-le}
+use lib.Seq.{get_or-append-add, take-suc, length-take-le}
 use Rattle.sheet.specs.Bytes.{byte, be16, be32, signed32}
 use Rattle.lists.specs.Lists.{list_below}
 use Rattle.writer.specs.Sheets.{bytes16, bits32, number_bytes}
@@ -38,7 +38,7 @@ module _ {A : Type 0} (f : A → List ℕ) (w : ℕ) (wide : (x : A) → length 
   flat_part : (l : List A) (i : ℕ) → i ≤ length l → length (flat_map f (take i l)) ≡ w * i
   flat_part l i h = flat_length (take i l) ∙ ap (λ k. w * k) (length-take-le i l h)
 
-  -- put element by element over a slice from a place on: one more, and all
+  -- put element by element over a slice from a place on: one more
   module _ (l : List A) (from : ℕ) (out : List ℕ) where
     pub element_put : (i : ℕ) (d : A) {before after : List ℕ} → i < length l → from + w * length l ≤ length out
         → before ≡ over (flat_map f (take i l)) from out → after ≡ over (f (get_or l i d)) (from + w * i) before
@@ -47,9 +47,6 @@ module _ {A : Type 0} (f : A → List ℕ) (w : ℕ) (wide : (x : A) → length 
         let part = flat_part l i (omega arith) in let less : w * i ≤ w * length l = mul-le-mul_left w (omega arith) in
         g ∙ over_next out from (flat_map f (take i l)) (f (get_or l i d)) e (omega (arith, part)) (omega (arith, part, less))
         ∙ ap (λ x. over x from out) (flat_next f l i d h)
-
-    pub all_put : (i : ℕ) {left : List ℕ} → i ≡ length l → left ≡ over (flat_map f (take i l)) from out → left ≡ over (flat_map f l) from out
-    all_put i e g = g ∙ ap (λ x. over (flat_map f x) from out) (ap (λ k. take k l) e ∙ take-length l)
 
   -- byte j of element i
   in_section : (l : List A) (q : List ℕ) (i j : ℕ) (d : A) → i < length l → j < w → byte (flat_map f l ++ q) (w * i + j) ≡ byte (f (get_or l i d)) j

@@ -1,0 +1,12 @@
+-- `put_legs`: the bytes of the legs so far stand from `from` on.
+use Rattle.std.proofs.Common.{◌-◌, ◌≡◌, ◌≤◌, take}
+use mathlib.Core.List.{flat_map}
+use Rattle.writer.specs.Sheets.{bytes16}
+use Rattle.writer.specs.Inside.{over}
+use Rattle.writer.proofs.put.put_legs.Given as goal
+
+abbrev pub invariant-loop-i : goal.invariant-loop-i
+invariant-loop-i l = record { count : l.i ≤ l.count; bytes : l.out ≡ over (flat_map bytes16 (take l.i l.legs)) l.from l.fn.out }
+
+abbrev pub decreases-loop-i : goal.decreases-loop-i
+decreases-loop-i l = l.count - l.i
