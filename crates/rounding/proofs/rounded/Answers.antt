@@ -1,5 +1,5 @@
 -- `rounding::rounded` meets its contract: the two tests add up to what the remainder rounds to, that and the quotient to what n / d rounds to.
-use Rattle.std.proofs.Common.{◌≡◌, refl, ◌∙◌, pos, nat_abs, ℤ, ◌+ℤ◌, ◌-ℤ◌}
+use Rattle.std.proofs.Common.{rules, ◌≡◌, refl, ◌∙◌, pos, negsuc, nat_abs, ℤ, ◌+ℤ◌, ◌-ℤ◌}
 use lib.Signed.{quot_z, rem_z, mag_rem}
 use mir.Syntax.{w64}
 use mir.Val.{SFits}
@@ -9,8 +9,26 @@ use Rattle.integers.proofs.Made.{read, passed}
 use Rattle.rounding.specs.Rounded.{rounded}
 use Rattle.rounding.proofs.Remainder.{up, fits_quot, fits_minus, step_rounds, sum_rounds, rounded_fits}
 use Rattle.rounding.proofs.rounded.Goals as goal
+use Rattle.rounding.proofs.rounded.Goals.{After-goes_up, After-goes_up-2}
 
-module _ (c : goal.After-goes_up-2) where
+-- tried at -5 of 2, -2.5, a half: the quotient is -2, the remainder -1, for which the tests give 0 and 1
+half_tried : After-goes_up-2
+half_tried = record {
+  before = record {
+    before = record { args = record { n = negsuc 4; d = pos 2 }; well_formed = search rules; ranges = search rules; requires = search rules };
+    goes_up = record { lifetimes = tt; result = pos 0; new = search rules; type_inv = search rules; auto = search rules; ensures = refl };
+  };
+  goes_up-2 = record { lifetimes = tt; result = pos 1; new = search rules; type_inv = search rules; auto = search rules; ensures = refl };
+}
+
+-- and at 3 of 4: the remainder 3 has the test 1
+above_tried : After-goes_up
+above_tried = record {
+  before = record { args = record { n = pos 3; d = pos 4 }; well_formed = search rules; ranges = search rules; requires = search rules };
+  goes_up = record { lifetimes = tt; result = pos 1; new = search rules; type_inv = search rules; auto = search rules; ensures = refl };
+}
+
+module _ (c : After-goes_up-2) where
   abbrev n : ℤ
   n = c.args.n
 
