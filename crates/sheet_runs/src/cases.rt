@@ -3,23 +3,31 @@ ghost use Rattle.std.specs.Prelude.{◌+◌, ◌≤◌};
 
 use crate::build::{leg_count, plain, put};
 use crate::tell::{print_number, tell};
-use libc::STDOUT_FILENO;
+use std::io;
 
 // The sheet of the kind and N with so many bytes changed.
-pub fn changed(name: &[u8], kind: u8, n: usize, at: usize, width: usize, x: u64)
+pub fn changed(
+    rt: &impl Print,
+    name: &str,
+    kind: u8,
+    n: usize,
+    at: usize,
+    width: usize,
+    x: u64,
+) -> io::Result<()>
     requires { n ≤ 600 }
 {
     let mut bytes = [0u8; 8192];
     let length = plain(&mut bytes, kind, n);
     put(&mut bytes, at, width, x);
-    tell(name, &bytes, length);
+    tell(rt, name, &bytes, length)
 }
 
 // Nothing changed.
-pub fn whole(name: &[u8], kind: u8, n: usize)
+pub fn whole(rt: &impl Print, name: &str, kind: u8, n: usize) -> io::Result<()>
     requires { n ≤ 600 }
 {
-    changed(name, kind, n, 0, 0, 0);
+    changed(rt, name, kind, n, 0, 0, 0)
 }
 
 // Makes one of the numbers 1 to 8 apply to a sheet of three waypoints (7: by the first one's up; 8: if it is held), and answers its length, which 5
@@ -42,28 +50,29 @@ fn fault(bytes: &mut [u8; 8192], kind: u8, number: usize, length: usize) -> usiz
 }
 
 // Two faults at once, or one where both are the same.
-fn two_faults(name: &[u8], kind: u8, low: usize, high: usize) {
+fn two_faults(rt: &impl Print, name: &str, kind: u8, low: usize, high: usize) -> io::Result<()> {
     let mut bytes = [0u8; 8192];
     let mut length = plain(&mut bytes, kind, 3);
     length = fault(&mut bytes, kind, high, length);
     if low < high {
         length = fault(&mut bytes, kind, low, length);
     }
-    io::write_all(STDOUT_FILENO, name);
-    print_number(low as u64);
-    print_number(high as u64);
-    tell(b"", &bytes, length);
+    print!(rt; "{name}")?;
+    print_number(rt, low as u64)?;
+    print_number(rt, high as u64)?;
+    tell(rt, "", &bytes, length)
 }
 
 // Each of the numbers 1 to 8 with itself and each higher one.
-pub fn faults(name: &[u8], kind: u8) {
+pub fn faults(rt: &impl Print, name: &str, kind: u8) -> io::Result<()> {
     let mut k = 0;
     while k < 64 {
         let low = k / 8 + 1;
         let high = k % 8 + 1;
         if low <= high {
-            two_faults(name, kind, low, high);
+            two_faults(rt, name, kind, low, high)?;
         }
         k = k + 1;
     }
+    Ok(())
 }

@@ -1,7 +1,7 @@
 // Lines of output, for the cases.
 use ends::EndKind;
-use libc::STDOUT_FILENO;
 use sheet::Reading;
+use std::io;
 
 fn kind_number(kind: EndKind) -> u64 {
     match kind {
@@ -11,39 +11,38 @@ fn kind_number(kind: EndKind) -> u64 {
     }
 }
 
-pub fn print_number(x: u64) {
-    io::write_all(STDOUT_FILENO, b" ");
-    io::print_decimal(STDOUT_FILENO, x);
+pub fn print_number(rt: &impl Print, x: u64) -> io::Result<()> {
+    print!(rt; " {x}")
 }
 
 // A2 and A9: number 0 with kind, N and P; or a refusal's number alone.
-fn print_answer(answer: Reading) {
+fn print_answer(rt: &impl Print, answer: Reading) -> io::Result<()> {
     match answer {
-        Reading::Refused(refusal) => print_number(sheet::number_of(refusal)),
+        Reading::Refused(refusal) => print_number(rt, sheet::number_of(refusal))?,
         Reading::Course {
             kind,
             points,
             ticks,
         } => {
-            print_number(0);
-            print_number(kind_number(kind));
-            print_number(points as u64);
-            print_number(ticks);
+            print_number(rt, 0)?;
+            print_number(rt, kind_number(kind))?;
+            print_number(rt, points as u64)?;
+            print_number(rt, ticks)?;
         }
     }
-    io::write_all(STDOUT_FILENO, b"\n");
+    println!(rt)
 }
 
 // Reads the first bytes as a sheet.
-fn read_first(bytes: &[u8], length: usize) {
+fn read_first(rt: &impl Print, bytes: &[u8], length: usize) -> io::Result<()> {
     if length <= bytes.len() {
-        print_answer(sheet::read(&bytes[..length]));
+        print_answer(rt, sheet::read(&bytes[..length]))?;
     }
+    Ok(())
 }
 
 // The line of a case.
-pub fn tell(name: &[u8], bytes: &[u8; 8192], length: usize) {
-    io::write_all(STDOUT_FILENO, name);
-    io::write_all(STDOUT_FILENO, b":");
-    read_first(bytes, length);
+pub fn tell(rt: &impl Print, name: &str, bytes: &[u8; 8192], length: usize) -> io::Result<()> {
+    print!(rt; "{name}:")?;
+    read_first(rt, bytes, length)
 }
