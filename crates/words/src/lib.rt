@@ -1,10 +1,18 @@
 // The line of each refusal (T4), whole, in one byte string (F6). For the stand's output.
 #![tactic(auto)]
 
-ghost use Rattle.std.specs.Prelude.{◌≡◌, ◌≤◌, length, take};
+ghost use Rattle.std.specs.Prelude.{◌≡◌, ◌==◌, ◌≤◌, length, take};
+ghost use Rattle.std.specs.List.{position};
 ghost use Rattle.words.specs.Words.{refusal_line, refusal_rows};
 
 use sheet::Refusal;
+
+// Where a byte stands first.
+fn find(bytes: &[u8], byte: u8) -> Option<usize>
+    ensures { result ≡ position (λ b. b == byte) bytes.now }
+{
+    bytes.iter().position(|b| *b == byte)
+}
 
 // Copies the refusal's line, which begins its row and ends with the line feed, to the buffer's front, and answers its length.
 fn put_row(rows: &[u8], refusal: Refusal, out: &mut [u8]) -> usize
@@ -12,8 +20,10 @@ fn put_row(rows: &[u8], refusal: Refusal, out: &mut [u8]) -> usize
     ensures { (result ≤ length out.new) × (take result out.new ≡ refusal_line refusal) }
 {
     let start = 19 * (sheet::number_of(refusal) as usize - 1);
-    let end = bytes::scan::find(rows, start, start + 19, b'\n') + 1;
-    bytes::copy(&rows[start..end], out)
+    let row = &rows[start..start + 19];
+    let count = find(row, b'\n').unwrap() + 1;
+    out[..count].copy_from_slice(&row[..count]);
+    count
 }
 
 // The lines stand in rows of 19 bytes, in the order of their numbers, each filled up with spaces. Reading refuses with 1 to 8 alone; the table is whole.
