@@ -75,7 +75,7 @@ pub fn copy_part(s: &[u8], from: usize, count: usize, out: &mut [u8], at: usize)
     requires { (from + count ≤ length s.now) × (at + count ≤ length out.old) }
     ensures { out.new ≡ over (take count (drop from s.now)) at out.old }
 {
-    bytes::copy(&s[from..from + count], &mut out[at..at + count]);
+    out[at..at + count].copy_from_slice(&s[from..from + count]);
 }
 
 // G5: the whole sheet, of lists that nothing refuses.
