@@ -17,6 +17,16 @@ pub struct Piece {
     pub end: u64,
 }
 
+// Puts a text at the buffer's front, and answers its length.
+fn put_text(text: &[u8], out: &mut [u8]) -> usize
+    requires { length text.now ≤ length out.old }
+    ensures { (result ≤ length out.new) × (take result out.new ≡ text.now) }
+{
+    let count = text.len();
+    out[..count].copy_from_slice(text);
+    count
+}
+
 // A refusal's line is all there is.
 fn refused(out: &mut [u8], refusal: Refusal) -> Piece
     requires { 19 ≤ length out.old }
@@ -50,7 +60,7 @@ pub fn begin(input: &[u8], list: &mut [i64], out: &mut [u8]) -> Piece
     };
     layout::lay_out(input, list);
     Piece {
-        bytes: bytes::copy(b"tick north east up\n", out),
+        bytes: put_text(b"tick north east up\n", out),
         next: 0,
         end: ticks + 1,
     }

@@ -1,53 +1,58 @@
 // The stand's program (T1 to T4): one sheet on standard input, its course or its refusal on standard output.
 #![tactic(auto)]
 
-ghost use Rattle.std.specs.Prelude.{◌≡◌, false, cond, ◌+◌, ◌≤◌, length};
+ghost use Rattle.std.specs.Prelude.{◌≡◌, false, cond, ◌+◌, ◌≤◌, length, IfSome};
 ghost use Rattle.output.specs.Output.{output};
 ghost use Rattle.output.specs.Pieces.{PartAt};
 
-use libc::{STDERR_FILENO, STDIN_FILENO, STDOUT_FILENO};
 use sheet::LONGEST_SHEET;
+use std::io::{ErrorKind, Read};
 
 // 3N, for the most waypoints, 512.
 const MOST_BENDS: usize = 1536;
 
-// How many bytes of the output are handed over, and whether a write failed.
+// How many bytes are put together before they are written.
+const PIECE: usize = 65536;
+
+// How many bytes of the output are handed over, whether a write failed, and whether it failed because nobody reads on.
 #[derive(Clone, Copy)]
 struct Handed {
     bytes: usize,
     failed: bool,
+    closed: bool,
 }
 
 // Writes a part of the output, the one that starts after the `sent` bytes before it.
-fn hand_part(input: &[u8], sent: usize, part: &[u8]) -> Handed
+fn hand_part(rt: &impl Print, input: &[u8], sent: usize, part: &[u8]) -> Handed
     requires { PartAt (output input.now) sent part.now }
     ensures { result.bytes ≡ sent + cond result.failed 0 (length part.now) }
 {
-    if io::write_all(STDOUT_FILENO, part) {
-        Handed {
+    match rt.write_all(part) {
+        Ok(()) => Handed {
             bytes: sent + part.len(),
             failed: false,
-        }
-    } else {
-        Handed {
+            closed: false,
+        },
+        Err(e) => Handed {
             bytes: sent,
             failed: true,
-        }
+            closed: e.kind() == ErrorKind::BrokenPipe,
+        },
     }
 }
 
 // Hands the output over, piece after piece: all of it, unless a write fails.
-fn hand_over(input: &[u8]) -> Handed
+fn hand_over(rt: &impl Print, input: &[u8]) -> Handed
     ensures bytes_in_bounds { result.bytes ≤ length (output input.now) }
     ensures whole { result.failed ≡ false → result.bytes ≡ length (output input.now) }
 {
     let mut list = [0i64; MOST_BENDS];
-    let mut out = io::large_buffer();
+    let mut out = [0u8; PIECE];
     let mut piece = output::begin(input, &mut list, &mut out);
     let mut sent = 0;
     while 0 < piece.bytes {
         let bytes = piece.bytes;
-        let handed = hand_part(input, sent, &out[..bytes]);
+        let handed = hand_part(rt, input, sent, &out[..bytes]);
         if handed.failed {
             return handed;
         }
@@ -57,20 +62,36 @@ fn hand_over(input: &[u8]) -> Handed
     Handed {
         bytes: sent,
         failed: false,
+        closed: false,
     }
 }
 
-// One byte more than the longest sheet is asked for (T1). At the end of its input a read gives 0 again; where it fails, or has more, the input was not read whole.
-fn main() {
-    let mut input = [0u8; LONGEST_SHEET + 1];
-    let n = io::read_full(STDIN_FILENO, &mut input);
-    let mut more = [0u8; 1];
-    if n <= LONGEST_SHEET && libc::read(STDIN_FILENO, &mut more) != 0 {
-        io::write_all(STDERR_FILENO, b"stand: cannot read standard input\n");
-        return;
+// Reads the input until it ends or the buffer is full, and answers how many bytes. At the end of its input a read gives 0 again; where one fails, or has
+// more, the input was not read whole and there is no answer.
+fn read_input(from: &mut impl Read, buffer: &mut [u8]) -> Option<usize>
+    ensures { IfSome result (λ n. n ≤ length buffer.new) }
+{
+    let mut done = 0;
+    while done < buffer.len() {
+        let n = from.read(&mut buffer[done..]).ok()?;
+        if n == 0 {
+            let more = from.read(&mut buffer[done..]).ok()?;
+            return if more == 0 { Some(done) } else { None };
+        }
+        done += n;
     }
-    let handed = hand_over(&input[..n]);
-    if handed.failed && os::errno() != libc::EPIPE {
-        io::write_all(STDERR_FILENO, b"stand: cannot write standard output\n");
+    Some(done)
+}
+
+// One byte more than the longest sheet is asked for (T1).
+fn main(rt: HostRuntime) {
+    let mut input = [0u8; LONGEST_SHEET + 1];
+    let Some(n) = read_input(&mut rt.stdin(), &mut input) else {
+        let _ = eprintln!(rt; "stand: cannot read standard input");
+        return;
+    };
+    let handed = hand_over(&rt, &input[..n]);
+    if handed.failed && !handed.closed {
+        let _ = eprintln!(rt; "stand: cannot write standard output");
     }
 }
