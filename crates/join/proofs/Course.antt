@@ -120,3 +120,8 @@ module _ (s : List ℕ) (n : ℕ) (t : List ℕ) (m : ℕ) (f : BothFree s n t m
 
   pub writable_joined : points_in (joined_lists s t).waypoints ≤ most_points → Writable (joined_lists s t)
   writable_joined = writable_turns (lists_of s) (lists_of t) (writable_lists s f.first) (writable_lists t f.second) (free_kind s f.first_free) (free_kind t f.second_free)
+
+-- the counts of both, as omega reads them
+pub bounds : (s : List ℕ) (n : ℕ) (t : List ℕ) (m : ℕ) → BothFree s n t m
+    → (2 ≤ n) × (n ≤ 512) × (length s ≡ 8 + 2 * (n - 1) + 12 * n) × (2 ≤ m) × (m ≤ 512) × (length t ≡ 8 + 2 * (m - 1) + 12 * m)
+bounds s n t m f = let a = first_counts s n t m f in let b = second_counts s n t m f in (a.some, a.few, a.long, b.some, b.few, b.long)
