@@ -7,13 +7,14 @@ mod elimination;
 mod rows;
 mod sheets;
 
-ghost use Rattle.std.specs.Prelude.{◌<◌, ◌≤◌};
+ghost use Rattle.std.specs.Prelude.{◌<◌, ◌≤◌, length, IfOk};
 
 use answers::Outcome;
 use ends::EndKind;
-use libc::{STDIN_FILENO, STDOUT_FILENO};
 use rows::Course;
 use sheet::Reading;
+use std::io;
+use std::io::Read;
 
 // How many sheets of each kind are made.
 const MADE: u64 = 1000;
@@ -179,37 +180,47 @@ fn rounded_up(x: f64) -> u64 {
 }
 
 // A number of thousandths, as in 7.043.
-fn print_thousandths(n: u64) {
-    io::print_decimal(STDOUT_FILENO, n / 1000);
-    io::write_all(STDOUT_FILENO, b".");
-    io::print_decimal(STDOUT_FILENO, n / 100 % 10);
-    io::print_decimal(STDOUT_FILENO, n / 10 % 10);
-    io::print_decimal(STDOUT_FILENO, n % 10);
+fn print_thousandths(rt: &impl Print, n: u64) -> io::Result<()> {
+    print!(rt; "{}.{}{}{}", n / 1000, n / 100 % 10, n / 10 % 10, n % 10)
 }
 
 // The line of one kind.
-fn show(name: &[u8], ends: u8, worked: &[u8]) {
+fn show(rt: &impl Print, name: &str, ends: u8, worked: &[u8]) -> io::Result<()> {
     let none = Seen {
         sheets: 0,
         largest: 0.0,
         beyond: false,
     };
     let seen = with_made(with_worked(none, worked, ends), ends);
-    io::write_all(STDOUT_FILENO, name);
-    io::print_decimal(STDOUT_FILENO, seen.sheets);
-    io::write_all(STDOUT_FILENO, b" sheets, largest difference ");
-    print_thousandths(rounded_up(8000.0 * seen.largest));
+    let sheets = seen.sheets;
+    print!(rt; "{name}{sheets} sheets, largest difference ")?;
+    print_thousandths(rt, rounded_up(8000.0 * seen.largest))?;
     if seen.beyond {
-        io::write_all(STDOUT_FILENO, b" eighths, BEYOND 9\n");
+        println!(rt; " eighths, BEYOND 9")
     } else {
-        io::write_all(STDOUT_FILENO, b" eighths, within 9\n");
+        println!(rt; " eighths, within 9")
     }
 }
 
-fn main() {
-    let mut worked = io::large_buffer();
-    let n = io::read_full(STDIN_FILENO, &mut worked);
-    show(b"free: ", 0, &worked[..n]);
-    show(b"held: ", 1, &worked[..n]);
-    show(b"closed: ", 2, &worked[..n]);
+// Reads until the buffer is full or the input ends, and answers how many bytes.
+fn read_full(from: &mut impl Read, buffer: &mut [u8]) -> io::Result<usize>
+    ensures { IfOk result (λ n. n ≤ length buffer.new) }
+{
+    let mut done = 0;
+    while done < buffer.len() {
+        let n = from.read(&mut buffer[done..])?;
+        if n == 0 {
+            break;
+        }
+        done += n;
+    }
+    Ok(done)
+}
+
+fn main(rt: HostRuntime) -> io::Result<()> {
+    let mut worked = [0u8; 65536];
+    let n = read_full(&mut rt.stdin(), &mut worked)?;
+    show(&rt, "free: ", 0, &worked[..n])?;
+    show(&rt, "held: ", 1, &worked[..n])?;
+    show(&rt, "closed: ", 2, &worked[..n])
 }
