@@ -20,7 +20,7 @@ use Rattle.layout.specs.Layout.{all_bends}
 use Rattle.layout.proofs.Outcomes.{done_answer, done_list}
 use Rattle.place.specs.Places.{bend_of}
 use Rattle.station.specs.Claim.{Own, OwnLaid}
-use Rattle.station.proofs.Tried as tried
+pub use Rattle.station.proofs.Tried as tried
 
 -- the laying out itself is the one that C1 asks for
 pub own_laid : OwnLaid
