@@ -1,5 +1,5 @@
 -- `tell_place`: three numbers are written, or a refusal's number is given.
-use Rattle.std.proofs.Common.{◌≡◌, ◌∙◌, [], ◌∷◌, ℕ, ℤ, pos, List, length, get_or, FitsSigned, w64, rules, refl, sym, ap}
+use Rattle.std.proofs.Common.{◌≡◌, ◌∙◌, [], ◌∷◌, ℤ, pos, List, length, get_or, FitsSigned, w64, rules, refl, sym, ap}
 use Rattle.integers.proofs.Machine.{back}
 use Rattle.answers.specs.declared.Outcome.{Outcome}
 use Rattle.place.specs.Places.{told_by, told_placed}

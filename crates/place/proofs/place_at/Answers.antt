@@ -1,5 +1,5 @@
 -- `place_at`: the six numbers asked are the definition's, and each axis gets its number.
-use Rattle.std.proofs.Common.{◌≡◌, ◌+◌, ◌*◌, ◌<◌, ◌||◌, ◌∙◌, [], ◌∷◌, ℕ, ℤ, Bool, List, false, sym, arith}
+use Rattle.std.proofs.Common.{◌≡◌, ◌+◌, ◌*◌, ◌||◌, ◌∙◌, [], ◌∷◌, ℕ, ℤ, Bool, List, false, sym, arith}
 use Rattle.integers.proofs.Made.{read, passed}
 use Rattle.sheet.specs.Bytes.{any_below}
 use Rattle.systems.specs.Passes.{at}

@@ -1,5 +1,5 @@
 -- `lay_axis`: after a pass that changed nothing the numbers are those of forty passes already, by `early_end` of crate systems.
-use Rattle.std.proofs.Common.{◌≡◌, ◌∙◌, ℕ, pos, replicate, ap, arith}
+use Rattle.std.proofs.Common.{◌∙◌, ℕ, pos, replicate, ap, arith}
 use Rattle.systems.specs.Passes.{passes}
 use Rattle.layout.proofs.Passes.{one_more, forty, settled}
 use Rattle.layout.proofs.pass.lay_axis.Goals as goal

@@ -1,18 +1,17 @@
 -- `pass`: each turn, at an end or between, is the definition's (`Through` of proofs/Sweep), and all numbers stay small because they are those of some
 -- count of passes from zeros.
-use Rattle.std.proofs.Common.{◌≡◌, ◌+◌, ◌≤◌, ◌<◌, ◌||◌, ◌∙◌, ℕ, ℤ, Bool, List, true, false, length, set, refl, sym, ap, subst, arith, to_z, of_z, w64}
+use Rattle.std.proofs.Common.{◌≡◌, ◌+◌, ◌<◌, ◌||◌, ◌∙◌, ℕ, ℤ, Bool, List, false, set, refl, sym, ap, subst, arith, to_z, w64}
 use mathlib.Core.Bool.{false≢true}
-use mathlib.Core.Logic.{⊎_elim}
 use Rattle.sheet.proofs.Below.{or_left, or_right}
 use Rattle.systems.specs.Passes.{at, renewed, turn}
 use Rattle.spline.specs.Spline.{prev, rows}
 use Rattle.layout.specs.Course.{course}
-use Rattle.layout.specs.Inside.{Small, AllSmall, Reached, OnSheet}
+use Rattle.layout.specs.Inside.{Small}
 use Rattle.integers.proofs.Made.{read, passed}
 use Rattle.layout.proofs.Given.{two_points, few_points, prev_fits}
 use Rattle.layout.proofs.Neighbours.{prev_later, next_inner}
 use Rattle.layout.proofs.Rows.{inner_present}
-use Rattle.layout.proofs.Sweep.{Through, between, kept, unmoved, at_set, turn_renews, turn_present, start_length}
+use Rattle.layout.proofs.Sweep.{Through, between, kept, unmoved, at_set, turn_renews, turn_present}
 use Rattle.layout.proofs.Sweep.{through_start, through_small, through_turn, through_end}
 use Rattle.layout.proofs.pass.pass.Goals as goal
 use Rattle.layout.proofs.pass.pass.Goals.{then-x-old, else-x-old}

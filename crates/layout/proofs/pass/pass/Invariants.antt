@@ -1,5 +1,5 @@
 -- `pass`: how far the pass has come, and that the left neighbour is the number that stands there.
-use Rattle.std.proofs.Common.{◌-◌, ◌≡◌, ◌+◌, ◌≤◌, to_z, w64}
+use Rattle.std.proofs.Common.{◌-◌, ◌≡◌, ◌+◌, ◌≤◌}
 use Rattle.systems.specs.Passes.{at}
 use Rattle.spline.specs.Spline.{prev}
 use Rattle.layout.specs.Course.{course}

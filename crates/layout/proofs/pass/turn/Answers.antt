@@ -1,5 +1,5 @@
 -- `turn`: without a row nothing is set; the number set is the row's with the numbers as they are, all of which are small.
-use Rattle.std.proofs.Common.{◌≡◌, ◌∙◌, ◌<◌, ℕ, ℤ, List, set, sym, ap, subst, arith}
+use Rattle.std.proofs.Common.{◌∙◌, set, sym, ap, subst}
 use borrow.Author.Tests.{eqb-true, not-false}
 use Rattle.spline.specs.Spline.{row_of}
 use Rattle.layout.specs.Course.{course}

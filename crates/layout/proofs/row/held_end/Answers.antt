@@ -1,5 +1,5 @@
 -- `held_end`: no product leaves 64 bits, so each number is R5's.
-use Rattle.std.proofs.Common.{pos, nat_abs, refl}
+use Rattle.std.proofs.Common.{nat_abs, refl}
 use Rattle.spline.specs.Spline.{held_end_row}
 use Rattle.integers.proofs.Made.{given, minus}
 use Rattle.layout.proofs.RowMade.{square, twice, rise, twice_some, zero, once, row_made}

@@ -1,5 +1,5 @@
 -- `held_start`: no product leaves 64 bits, so each number is R4's.
-use Rattle.std.proofs.Common.{pos, nat_abs, refl}
+use Rattle.std.proofs.Common.{nat_abs, refl}
 use Rattle.spline.specs.Spline.{held_start_row}
 use Rattle.integers.proofs.Made.{given, minus}
 use Rattle.layout.proofs.RowMade.{square, twice, rise, twice_some, zero, once, row_made}

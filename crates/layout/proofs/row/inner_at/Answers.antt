@@ -1,5 +1,5 @@
 -- `inner_at`: the legs and value steps are those of the course, round its end where the course is closed.
-use Rattle.std.proofs.Common.{◌≡◌, ◌<◌, ◌-ℤ◌, ◌∙◌, ℕ, pos, nat_abs, sym, ap, arith}
+use Rattle.std.proofs.Common.{◌-ℤ◌, ◌∙◌, ℕ, pos, nat_abs, sym, ap}
 use Rattle.sheet.specs.Fields.{leg, waypoint}
 use Rattle.spline.specs.Spline.{step_after, step_before, inner_row}
 use Rattle.layout.specs.Course.{course}

@@ -1,9 +1,8 @@
 -- `place_on`: the numbers that it is given are those of the definition, and within the limits that `position` asks for.
-use Rattle.std.proofs.Common.{◌≡◌, ◌∙◌, nat_abs, ap, arith}
-use Rattle.integers.proofs.Made.{given, read, read_back, passed}
-use Rattle.sheet.specs.Fields.{leg, waypoint}
+use Rattle.std.proofs.Common.{◌∙◌, nat_abs, ap, arith}
+use Rattle.integers.proofs.Made.{given, read_back, passed}
 use Rattle.spline.specs.Position.{position}
-use Rattle.place.specs.Places.{end_of, bend_of, place_on}
+use Rattle.place.specs.Places.{place_on}
 use Rattle.place.proofs.Fitting.{numbers_fit}
 use Rattle.place.proofs.axis.place_on.Goals as goal
 

@@ -1,5 +1,5 @@
 -- `add_legs`: sixteen legs more in the sum and in the flag, and their sum kept; behind the loop the legs that are left.
-use Rattle.std.proofs.Common.{◌≡◌, ◌+◌, ◌*◌, ◌/◌, ◌%◌, ◌≤◌, ◌<◌, ◌||◌, ◌∙◌, ℕ, Bool, List, length, ap, refl, sym, arith}
+use Rattle.std.proofs.Common.{◌≡◌, ◌+◌, ◌*◌, ◌/◌, ◌%◌, ◌≤◌, ◌<◌, ◌||◌, ◌∙◌, ℕ, Bool, List, ap, refl, sym, arith}
 use native.Mathlib.Nat.{div-add-mod, div-eq_of_lt-le}
 use lib.ListN.{length-set}
 use Rattle.sheet.specs.Bytes.{any_below, sum_below}

@@ -1,5 +1,5 @@
 -- `read_with_sums`: a torn sheet is told, and one that is not leaves the rest of the chain.
-use Rattle.std.proofs.Common.{◌≡◌, ◌∙◌, sym, ap, length}
+use Rattle.std.proofs.Common.{◌∙◌, sym, ap, length}
 use borrow.Author.Tests.{le-ltb, lt-ltb, eq-eqb, ne_eqb}
 use Rattle.sheet.specs.Answers.{told}
 use Rattle.sheet.specs.Bytes.{be32}

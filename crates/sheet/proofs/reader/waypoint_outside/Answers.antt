@@ -1,6 +1,6 @@
 -- `waypoint_outside`: one test for each axis, and the first that holds tells.
 use Rattle.std.proofs.Common.{◌≡◌, ◌∙◌, ℕ, Bool, ap, refl, sym}
-use Rattle.sheet.specs.Bytes.{be32, signed32}
+use Rattle.sheet.specs.Bytes.{signed32}
 use Rattle.sheet.specs.Reading.{reach_outside}
 use Rattle.sheet.proofs.Numbers.{any_axis}
 use Rattle.sheet.proofs.reader.waypoint_outside.Goals as goal
