@@ -4,11 +4,11 @@
 
 use answers::Outcome;
 use fleet::{PairOutcome, round_numbers, round_pair};
-use libc::STDOUT_FILENO;
 use place::Placed;
 use printing::print_signed;
 use runner::Runner;
 use seat::NextTurn;
+use std::io;
 
 // One over 2^37
 const BEYOND: i64 = 137438953473;
@@ -16,80 +16,93 @@ const BEYOND: i64 = 137438953473;
 // The largest count of laps
 const LAST: u64 = 18446744073709551615;
 
-fn print(text: &[u8]) {
-    io::write_all(STDOUT_FILENO, text);
+fn print(rt: &impl Print, text: &str) -> io::Result<()> {
+    rt.print(text)
 }
 
-fn print_number(n: u64) {
-    io::print_decimal(STDOUT_FILENO, n);
+fn print_number(rt: &impl Print, n: u64) -> io::Result<()> {
+    rt.print(n)
 }
 
-fn show_placed(placed: Placed) {
+fn show_placed(rt: &impl Print, placed: Placed) -> io::Result<()> {
     let outcome = placed.outcome;
     let place = placed.place;
     let at = place.at;
     match outcome {
         Outcome::Done => {
-            print(b"place ");
-            print_signed(at[0]);
-            print(b" ");
-            print_signed(at[1]);
-            print(b" ");
-            print_signed(at[2]);
+            print(rt, "place ")?;
+            print_signed(rt, at[0])?;
+            print(rt, " ")?;
+            print_signed(rt, at[1])?;
+            print(rt, " ")?;
+            print_signed(rt, at[2])?;
         }
         Outcome::Refused(refusal) => {
-            print(b"refused ");
-            print_number(sheet::number_of(refusal));
+            print(rt, "refused ")?;
+            print_number(rt, sheet::number_of(refusal))?;
         }
     }
+    Ok(())
 }
 
 // The turn that comes next: the one that is given, or the one that was asked for.
-fn show_next(given: NextTurn, turn: u64) -> u64 {
+fn show_next(rt: &impl Print, given: NextTurn, turn: u64) -> io::Result<u64> {
     match given {
         NextTurn::Seat(next) => {
-            print(b", next ");
-            print_number(next);
-            next
+            print(rt, ", next ")?;
+            print_number(rt, next)?;
+            Ok(next)
         }
-        NextTurn::None => turn,
+        NextTurn::None => Ok(turn),
     }
 }
 
-fn show_records(lent: &[u64]) {
-    print(b", records");
+fn show_records(rt: &impl Print, lent: &[u64]) -> io::Result<()> {
+    print(rt, ", records")?;
     for i in 0..lent.len() {
-        print(b" ");
-        print_number(lent[i]);
+        print(rt, " ")?;
+        print_number(rt, lent[i])?;
     }
-    print(b"\n");
+    println!(rt)
 }
 
 // A round, shown, and the turn that comes next.
-fn show_round(s: &[u8], list: &[i64], lent: &mut [u64], turn: u64) -> u64 {
-    print(b"turn ");
-    print_number(turn);
-    print(b": ");
+fn show_round(
+    rt: &impl Print,
+    s: &[u8],
+    list: &[i64],
+    lent: &mut [u64],
+    turn: u64,
+) -> io::Result<u64> {
+    print(rt, "turn ")?;
+    print_number(rt, turn)?;
+    print(rt, ": ")?;
     let answer = round_numbers(s, list, lent, turn);
     let placed = answer.placed;
-    show_placed(placed);
+    show_placed(rt, placed)?;
     let given = answer.next;
-    let next = show_next(given, turn);
-    show_records(lent);
-    next
+    let next = show_next(rt, given, turn)?;
+    show_records(rt, lent)?;
+    Ok(next)
 }
 
 // A round on the lent records of a pair, shown; the records afterwards.
-fn show_pair(s: &[u8], list: &[i64], pair: [Runner; 2], turn: u64) -> PairOutcome {
-    print(b"turn ");
-    print_number(turn);
-    print(b": ");
+fn show_pair(
+    rt: &impl Print,
+    s: &[u8],
+    list: &[i64],
+    pair: [Runner; 2],
+    turn: u64,
+) -> io::Result<PairOutcome> {
+    print(rt, "turn ")?;
+    print_number(rt, turn)?;
+    print(rt, ": ")?;
     let outcome = round_pair(s, list, pair, turn);
     let answer = outcome.answer;
     let placed = answer.placed;
-    show_placed(placed);
+    show_placed(rt, placed)?;
     let given = answer.next;
-    show_next(given, turn);
+    show_next(rt, given, turn)?;
     let after = outcome.pair;
     let first = after[0];
     let second = after[1];
@@ -101,39 +114,53 @@ fn show_pair(s: &[u8], list: &[i64], pair: [Runner; 2], turn: u64) -> PairOutcom
         second.offset,
         second.laps,
     ];
-    show_records(&numbers);
-    outcome
+    show_records(rt, &numbers)?;
+    Ok(outcome)
 }
 
 // Four rounds of a pair.
-fn fly_pair(name: &[u8], s: &[u8], list: &[i64], pair: [Runner; 2]) {
-    print(name);
-    print(b"\n");
-    let a = show_pair(s, list, pair, 0);
+fn fly_pair(
+    rt: &impl Print,
+    name: &str,
+    s: &[u8],
+    list: &[i64],
+    pair: [Runner; 2],
+) -> io::Result<()> {
+    println!(rt; "{name}")?;
+    let a = show_pair(rt, s, list, pair, 0)?;
     let after_a = a.pair;
-    let b = show_pair(s, list, after_a, 1);
+    let b = show_pair(rt, s, list, after_a, 1)?;
     let after_b = b.pair;
-    let c = show_pair(s, list, after_b, 0);
+    let c = show_pair(rt, s, list, after_b, 0)?;
     let after_c = c.pair;
-    show_pair(s, list, after_c, 1);
+    show_pair(rt, s, list, after_c, 1)?;
+    Ok(())
 }
 
 // Rounds in a row with these bend numbers, from a turn on, each with the turn that the one before gave.
-fn fly(name: &[u8], s: &[u8], list: &[i64], lent: &mut [u64], first: u64, rounds: u64) {
-    print(name);
-    print(b"\n");
+fn fly(
+    rt: &impl Print,
+    name: &str,
+    s: &[u8],
+    list: &[i64],
+    lent: &mut [u64],
+    first: u64,
+    rounds: u64,
+) -> io::Result<()> {
+    println!(rt; "{name}")?;
     let mut turn = first;
     for _ in 0..rounds {
-        turn = show_round(s, list, lent, turn);
+        turn = show_round(rt, s, list, lent, turn)?;
     }
+    Ok(())
 }
 
 // Course A: one seat goes the whole way, one is soon at the end, one has landed, one is adrift.
-fn fly_open(s: &[u8]) {
+fn fly_open(rt: &impl Print, s: &[u8]) -> io::Result<()> {
     let mut list = [7; 9];
     layout::lay_out(s, &mut list);
     let mut lent = [0, 0, 0, 1, 1, 0, 1, 2, 0, 0, 2, 0];
-    fly(b"A, four seats", s, &list, &mut lent, 0, 18);
+    fly(rt, "A, four seats", s, &list, &mut lent, 0, 18)?;
     let first = Runner {
         leg: 0,
         offset: 1,
@@ -144,82 +171,102 @@ fn fly_open(s: &[u8]) {
         offset: 1,
         laps: 0,
     };
-    fly_pair(b"A, a pair on lent records", s, &list, [first, second]);
+    fly_pair(rt, "A, a pair on lent records", s, &list, [first, second])
 }
 
 // Course A with numbers left over behind the seats, and with a lap, which no open course takes.
-fn fly_odd(s: &[u8]) {
+fn fly_odd(rt: &impl Print, s: &[u8]) -> io::Result<()> {
     let mut list = [7; 9];
     layout::lay_out(s, &mut list);
     let mut odd = [0, 0, 0, 1, 0, 0, 9];
-    fly(b"A, two seats and a number more", s, &list, &mut odd, 1, 4);
+    fly(
+        rt,
+        "A, two seats and a number more",
+        s,
+        &list,
+        &mut odd,
+        1,
+        4,
+    )?;
     let mut odder = [0, 0, 0, 1, 0, 0, 9, 8];
     fly(
-        b"A, two seats and two numbers more",
+        rt,
+        "A, two seats and two numbers more",
         s,
         &list,
         &mut odder,
         1,
         4,
-    );
+    )?;
     let mut lapped = [0, 0, 1, 1, 0, 0];
-    fly(b"A, two seats, one with a lap", s, &list, &mut lapped, 0, 4);
+    fly(
+        rt,
+        "A, two seats, one with a lap",
+        s,
+        &list,
+        &mut lapped,
+        0,
+        4,
+    )
 }
 
 // Course A with a bad bend number, at its last waypoint and then at its first.
-fn fly_bent(s: &[u8]) {
+fn fly_bent(rt: &impl Print, s: &[u8]) -> io::Result<()> {
     let mut list = [7; 9];
     layout::lay_out(s, &mut list);
     list[2] = BEYOND;
     let mut bent = [0, 0, 0, 0, 1, 0];
     fly(
-        b"A, two seats, a bad bend number at the last waypoint",
+        rt,
+        "A, two seats, a bad bend number at the last waypoint",
         s,
         &list,
         &mut bent,
         0,
         4,
-    );
+    )?;
     list[2] = 0;
     list[0] = BEYOND;
     let mut left = [0, 0, 0, 0, 1, 0];
     fly(
-        b"A, two seats, a bad bend number at the first waypoint",
+        rt,
+        "A, two seats, a bad bend number at the first waypoint",
         s,
         &list,
         &mut left,
         0,
         4,
-    );
+    )
 }
 
 // On course A, calls that no seat is asked for.
-fn fly_nobody(s: &[u8]) {
+fn fly_nobody(rt: &impl Print, s: &[u8]) -> io::Result<()> {
     let list = [0; 9];
     let mut kept = [0, 0, 0];
-    fly(b"A, a turn that is no seat's", s, &list, &mut kept, 1, 1);
+    fly(rt, "A, a turn that is no seat's", s, &list, &mut kept, 1, 1)?;
     let short = [0; 8];
     let mut with_short = [0, 0, 0];
     fly(
-        b"A, a list that is too short",
+        rt,
+        "A, a list that is too short",
         s,
         &short,
         &mut with_short,
         1,
         1,
-    );
+    )?;
     let mut with_torn = [0, 0, 0];
-    fly(b"a torn sheet", b"", &list, &mut with_torn, 0, 1);
+    fly(rt, "a torn sheet", b"", &list, &mut with_torn, 0, 1)
 }
 
 // The closed course: three seats, twice round, one of them with the largest count of laps.
-fn fly_closed() {
+fn fly_closed(rt: &impl Print) -> io::Result<()> {
     let s =
         b"\x00\x00\x00\x40\x01\x02\x00\x04\x00\x02\x00\x02\x00\x02\x00\x02\x00\x00\x00\x00\x00\x00\x00\x00\x00\x00\x00\x00\x00\x00\x00\x06\x00\x00\x00\x00\x00\x00\x00\x00\x00\x00\x00\x00\x00\x00\x00\x00\x00\x00\x00\x00\xff\xff\xff\xfa\x00\x00\x00\x00\x00\x00\x00\x00";
     let mut list = [7; 12];
     layout::lay_out(s, &mut list);
     let mut lent = [3, 1, 0, 0, 0, 7, 1, 1, LAST];
-    fly(b"closed, three seats", s, &list, &mut lent, 2, 48);
+    fly(rt, "closed, three seats", s, &list, &mut lent, 2, 48)?;
     let last = Runner {
         leg: 3,
         offset: 1,
@@ -230,21 +277,21 @@ fn fly_closed() {
         offset: 0,
         laps: 0,
     };
-    fly_pair(b"closed, a pair on lent records", s, &list, [last, lost]);
+    fly_pair(rt, "closed, a pair on lent records", s, &list, [last, lost])?;
     let mut most = [0; 96];
-    fly(b"closed, 32 seats", s, &list, &mut most, 31, 2);
+    fly(rt, "closed, 32 seats", s, &list, &mut most, 31, 2)?;
     let mut many = [0; 99];
-    fly(b"closed, 33 seats", s, &list, &mut many, 40, 1);
+    fly(rt, "closed, 33 seats", s, &list, &mut many, 40, 1)?;
     let mut none = [5, 6];
-    fly(b"closed, no seat", s, &list, &mut none, 0, 1);
+    fly(rt, "closed, no seat", s, &list, &mut none, 0, 1)
 }
 
-fn main() {
+fn main(rt: HostRuntime) -> io::Result<()> {
     let a =
         b"\x00\x00\x00\x30\x01\x00\x00\x03\x00\x02\x00\x02\x00\x00\x00\x00\x00\x00\x00\x0a\x00\x00\x00\x14\x00\x00\x00\x08\x00\x00\x00\x0a\x00\x00\x00\x16\x00\x00\x00\x00\x00\x00\x00\x0a\x00\x00\x00\x18";
-    fly_open(a);
-    fly_odd(a);
-    fly_bent(a);
-    fly_nobody(a);
-    fly_closed();
+    fly_open(&rt, a)?;
+    fly_odd(&rt, a)?;
+    fly_bent(&rt, a)?;
+    fly_nobody(&rt, a)?;
+    fly_closed(&rt)
 }
