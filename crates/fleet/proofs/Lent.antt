@@ -1,9 +1,7 @@
 -- From what is promised of one seat's turn to what is promised of the list: the seat's record is set, and where the turn is no seat's the list is as it was.
 use mathlib.Core.Path.{◌≡◌, refl, sym, ap, ◌∙◌}
 use mathlib.Core.List.{List, [], ◌∷◌}
-use Prim.Native.Nat.{ℕ, ◌*◌, ◌^◌, ◌≤◌, ◌<◌}
-use native.Mathlib.Nat.{mul-le-mul_right, le_of_lt}
-use native.Mathlib.Omega.{arith}
+use Prim.Native.Nat.{ℕ, ◌≤◌}
 use lib.IntN.{ℤ, pos}
 use lib.ListN.{length, set, replicate, get_or-eq_default}
 use lib.Seq.{set_out, set-get_or}
@@ -27,10 +25,6 @@ use Rattle.fleet.specs.Round.{seat_of, round_answer, turn_given, fleet_after}
 other_tried : fleet_after sheet_a (replicate 9 (pos 0)) (runner 0 0 ∷ runner 0 1 ∷ []) 1 ≡ runner 0 0 ∷ runner 1 0 ∷ []
 unfolding be16 be32 signed32 any_below sum_below read_by course next off_legs adrift moved bend_outside flown served seat_after fleet_after
 other_tried = refl
-
--- where an element of a slice starts, in bytes, fits a usize
-pub place_fits : (size t n : ℕ) → t < n → n * size < 2 ^ 63 → t * size < 2 ^ 64
-place_fits size t n h room = omega (arith, mul-le-mul_right size (le_of_lt h))
 
 -- A9: a refused round leaves every record as it was
 pub fleet_kept : (s : List ℕ) (list : List ℤ) (fleet : List Runner) (t : ℕ) → ¬ ((round_answer s list fleet t).number ≡ 0) → fleet_after s list fleet t ≡ fleet

@@ -1,4 +1,4 @@
-// The round over plain numbers, leg, offset and laps of each seat in turn, for callers without records, as at the C boundary. It needs no walk by hand.
+// The round over plain numbers, leg, offset and laps of each seat in turn, for callers without records, as at the C boundary.
 ghost use Rattle.std.specs.Prelude.{◌≡◌, set};
 ghost use Rattle.place.specs.Places.{told_placed, place_held};
 ghost use Rattle.seat.specs.Serving.{told_next};

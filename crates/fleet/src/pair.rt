@@ -1,4 +1,4 @@
-// The lent round on a fleet of its own of two seats, for the program that runs it (crates/fleet_runs): a caller needs no walk by hand.
+// The lent round on a fleet of its own of two seats, for the program that runs it (crates/fleet_runs).
 ghost use Rattle.std.specs.Prelude.{◌≡◌};
 ghost use Rattle.place.specs.Places.{told_placed, place_held};
 ghost use Rattle.seat.specs.Serving.{told_next};
