@@ -1,4 +1,5 @@
 -- The chain of tests (specs/Joining): each that applies is answered, a call that is not refused passes them all; then what is left in the slice.
+-- (The worked joins are named so that they are checked first, by `pub use`: an import that nothing uses is tidied away.)
 use mathlib.Core.Path.{◌≡◌, refl, sym, ap, ◌∙◌}
 use mathlib.Core.Bool.{true, false, false≢true}
 use mathlib.Core.List.{List, ◌++◌}
@@ -25,6 +26,7 @@ use Rattle.writer.proofs.Parts.{long}
 use Rattle.join.specs.Joining.{is_shut, shut, apart, crowded, join_free, joined_lists, joined_sheet, join_sheets, joined_into}
 use Rattle.join.specs.Inside.{BothFree}
 use Rattle.join.proofs.Course.{writable_joined}
+pub use Rattle.join.proofs.Worked as worked
 
 free_ended : (k : EndKind) → is_shut k ≡ false → k ≡ Free
 free_ended Free e = refl

@@ -1,4 +1,5 @@
 -- The chain of tests (specs/Answer), both ways: a call that is not refused leaves writable lists and room for them, and these pass every test.
+-- (The worked lists are named so that they are checked first, by `pub use`: an import that nothing uses is tidied away.)
 use mathlib.Core.Path.{◌≡◌, ap, ◌∙◌}
 use mathlib.Core.Bool.{Bool, true, false, not, ◌||◌}
 use mathlib.Core.List.{List}
@@ -19,6 +20,7 @@ use Rattle.lists.specs.Lists.{Lists, kind_in, points_in, number_on, slope_count,
 use Rattle.lists.specs.Answer.{kind_outside, points_outside, counts_differ, some_leg_outside, some_reach_outside, some_slope_outside, told_written, write_numbers, write_sheet}
 use Rattle.lists.specs.Inside.{Writable}
 use Rattle.lists.specs.declared.Written.TheVariants.{Length}
+pub use Rattle.lists.proofs.Worked as worked
 
 -- a test of two counts, passed and not
 same : (a b : ℕ) → not (eqb a b) ≡ false → a ≡ b

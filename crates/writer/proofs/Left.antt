@@ -1,4 +1,5 @@
 -- What a call leaves in the slice (specs/Writing), from its answer: a refusal all of it, the answered length the sheet and what stood behind it.
+-- (The worked sheet is named so that it is checked first, by `pub use`: an import that nothing uses is tidied away.)
 use mathlib.Core.Path.{◌≡◌, sym, ap, ◌∙◌}
 use mathlib.Core.List.{List, ◌++◌}
 use Prim.Native.Nat.{ℕ, ◌≤◌}
@@ -16,6 +17,7 @@ use Rattle.lists.specs.Inside.{Writable}
 use Rattle.writer.specs.Inside.{over}
 use Rattle.lists.specs.declared.Written.TheVariants.{Length}
 use Rattle.writer.proofs.Parts.{long}
+pub use Rattle.writer.proofs.Worked as worked
 use Rattle.lists.proofs.Tests.{Unrefused, unrefused, answered, writable}
 
 module _ (c : Lists) (out : List ℕ) where

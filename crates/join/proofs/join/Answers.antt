@@ -1,8 +1,9 @@
 -- `join`: each return is a link of the chain (Chain), and the slice is written only behind the last one.
-use Rattle.std.proofs.Common.{◌≡◌, ◌≤◌, ◌+◌, ◌-◌, ◌||◌, ◌∙◌, ℕ, Bool, List, false, length, ap, sym, arith}
+-- (Where an edited program fails by its numbers stands before where it fails by a name.)
+use Rattle.std.proofs.Common.{◌≡◌, ◌≤◌, ◌+◌, ◌-◌, ◌||◌, ◌∙◌, ℕ, Bool, List, true, false, length, ap, refl, sym, arith}
 use borrow.Author.Tests.{lt-ltb, le-ltb}
 use Rattle.ends.specs.declared.EndKind.{EndKind}
-use Rattle.ends.specs.declared.EndKind.TheVariants.{Free}
+use Rattle.ends.specs.declared.EndKind.TheVariants.{Free, Held}
 use Rattle.sheet.specs.Answers.{Told, told}
 use Rattle.sheet.specs.Fields.{sheet_length}
 use Rattle.sheet.specs.Reading.{most_points, read_sheet}
@@ -19,7 +20,11 @@ use Rattle.join.specs.Inside.{BothFree}
 use Rattle.join.proofs.Course.{bounds, count_joined}
 use Rattle.join.proofs.Chain.{both_free, after_first, shut_stops, apart_stops, crowded_stops, page_stops, all_passed, kept, left_joined}
 use Rattle.join.proofs.join.Goals as goal
-use Rattle.join.proofs.join.Goals.{Else-is_shut}
+use Rattle.join.proofs.join.Goals.{After-is_shut-2, Else-is_shut}
+
+-- tried at a free first and a held second: the second is shut
+second_tried : (c : After-is_shut-2) → c.in-Course.kind ≡ Free → c.in-Course-other.other_kind ≡ Held → c.is_shut-2.result ≡ true
+second_tried c e f = c.is_shut-2.ensures ∙ simp (e, f) refl
 
 -- ---- two sheets as they were read
 module _ (s t : List ℕ) {r q : Reading} {k l : EndKind} {n m i j : ℕ} (e : told r ≡ told (read_sheet s)) (f : r ≡ Course k n i)
@@ -90,17 +95,15 @@ overflow_add-count c = let f = both (goal.at.overflow_add-count c).Else-is_shut 
 pub overflow_sub-count : goal.overflow_sub-count
 overflow_sub-count c = let f = both (goal.at.overflow_sub-count c).Else-is_shut in omega (arith, bounds)
 
-pub returns-then-count-gt-MOST_POINTS : goal.returns-then-count-gt-MOST_POINTS
-returns-then-count-gt-MOST_POINTS c =
-    let s = c.args.first.now in let t = c.args.second.now in let out = c.args.sheet.now in
-    let f = both (goal.at.returns-then-count-gt-MOST_POINTS c).Else-is_shut in
-    let k = kept s t out Crowded (crowded_stops s t (length out) f.first f.second (not_shut f) (sym c.is_apart.ensures ∙ c.if-is_apart.false)
-    (lt-ltb most_points (points_in (joined_lists s t).waypoints) (omega (arith, count_joined _ _ _ _ f)))) in record { answer = k.0; sheet = k.1 }
-
 pub sheet_length-size-requires : goal.sheet_length-size-requires
 sheet_length-size-requires c =
     let f = both (goal.at.sheet_length-size-requires c).Else-is_shut in
     (omega (arith, bounds), omega (arith, bounds))
+
+pub put_joined-requires : goal.put_joined-requires
+put_joined-requires c =
+    let f = both (goal.at.put_joined-requires c).Else-is_shut in
+    let size = is_size f c.sheet_length-size.ensures in (f, size, omega arith)
 
 pub returns-then-sheet-size : goal.returns-then-sheet-size
 returns-then-sheet-size c =
@@ -108,12 +111,14 @@ returns-then-sheet-size c =
     let f = both (goal.at.returns-then-sheet-size c).Else-is_shut in
     let size = is_size f c.sheet_length-size.ensures in
     let k = kept s t out Page (page_stops s t (length out) f.first f.second (not_shut f) (sym c.is_apart.ensures ∙ c.if-is_apart.false)
-    (few f c.if-count-gt-MOST_POINTS.false) (lt-ltb (length out) (size_of (joined_lists s t)) (omega arith))) in record { answer = k.0; sheet = k.1 }
+    (few f (omega arith)) (lt-ltb (length out) (size_of (joined_lists s t)) (omega arith))) in record { answer = k.0; sheet = k.1 }
 
-pub put_joined-requires : goal.put_joined-requires
-put_joined-requires c =
-    let f = both (goal.at.put_joined-requires c).Else-is_shut in
-    (f, is_size f c.sheet_length-size.ensures, c.if-sheet-size.false)
+pub returns-then-count-gt-MOST_POINTS : goal.returns-then-count-gt-MOST_POINTS
+returns-then-count-gt-MOST_POINTS c =
+    let s = c.args.first.now in let t = c.args.second.now in let out = c.args.sheet.now in
+    let f = both (goal.at.returns-then-count-gt-MOST_POINTS c).Else-is_shut in
+    let k = kept s t out Crowded (crowded_stops s t (length out) f.first f.second (not_shut f) (sym c.is_apart.ensures ∙ c.if-is_apart.false)
+    (lt-ltb most_points (points_in (joined_lists s t).waypoints) (omega (arith, count_joined _ _ _ _ f)))) in record { answer = k.0; sheet = k.1 }
 
 pub returns : goal.returns
 returns c =
@@ -122,6 +127,6 @@ returns c =
     let size = is_size f c.sheet_length-size.ensures in
     let answer =
     ap (λ (n : ℕ). told_written (Length n)) size
-    ∙ all_passed s t (length out) f.first f.second (not_shut f) (sym c.is_apart.ensures ∙ c.if-is_apart.false) (few f c.if-count-gt-MOST_POINTS.false)
+    ∙ all_passed s t (length out) f.first f.second (not_shut f) (sym c.is_apart.ensures ∙ c.if-is_apart.false) (few f (omega arith))
     (le-ltb (length out) (size_of (joined_lists s t)) (omega arith)) in
     record { answer = answer; sheet = c.put_joined.ensures ∙ left_joined s t out (sym (ap (λ (x : Told). x.number) answer)) }

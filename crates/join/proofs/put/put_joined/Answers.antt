@@ -1,15 +1,32 @@
 -- `put_joined`: a head, then four sections of the two sheets, each behind the one before.
-use Rattle.std.proofs.Common.{◌≡◌, ◌+◌, ◌*◌, ◌-◌, ◌≤◌, ◌++◌, ◌∙◌, ℕ, List, length, drop, length-append, length-drop, ap, refl, arith}
+use Rattle.std.proofs.Common.{◌≡◌, ◌+◌, ◌*◌, ◌-◌, ◌≤◌, ◌++◌, ◌∙◌, ℕ, List, [], ◌∷◌, replicate, length, drop, length-append, length-drop, ap, refl, arith}
+use mathlib.Core.List.{flat_map}
 use lib.Seq.{length-take-le}
 use Rattle.lists.specs.Lists.{size_of}
-use Rattle.writer.specs.Sheets.{head_bytes}
+use Rattle.writer.specs.Sheets.{head_bytes, written_sheet}
+use Rattle.writer.specs.Worked.{sheet_a}
 use Rattle.writer.specs.Inside.{over}
 use Rattle.writer.proofs.Over.{over_next}
 use Rattle.join.specs.Joining.{joined_lists}
 use Rattle.join.specs.Inside.{BothFree}
+use Rattle.join.specs.Worked.{onward}
 use Rattle.join.proofs.Course.{bounds, size_joined}
 use Rattle.join.proofs.Sections.{head, legs₁, legs₂, points₁, points₂, in_sections}
 use Rattle.join.proofs.put.put_joined.Goals as goal
+use Rattle.join.proofs.put.put_joined.Goals.{After-copy_part, After-copy_part-4}
+
+-- tried at A and the course that goes on from it (W15): A's legs come first, and the other's last waypoint behind A's
+legs_tried : (c : After-copy_part) → let a = c.args in
+    a.first.now ≡ sheet_a → a.n ≡ 3 → a.second.now ≡ onward → a.m ≡ 2 → c.put_head.new.out ≡ replicate 14 7
+    → c.copy_part.new.out ≡ replicate 8 7 ++ (0 ∷ 2 ∷ 0 ∷ 2 ∷ 7 ∷ 7 ∷ [])
+unfolding over flat_map written_sheet
+legs_tried c d e f g o = c.copy_part.ensures ∙ simp (d, e, f, g, o) refl
+
+last_tried : (c : After-copy_part-4) → let a = c.args in
+    a.n ≡ 3 → a.second.now ≡ onward → a.m ≡ 2 → c.copy_part-3.new.out ≡ replicate 62 7
+    → c.copy_part-4.new.out ≡ replicate 50 7 ++ (0 ∷ 0 ∷ 0 ∷ 9 ∷ 0 ∷ 0 ∷ 0 ∷ 10 ∷ 0 ∷ 0 ∷ 0 ∷ 24 ∷ [])
+unfolding over flat_map written_sheet
+last_tried c e f g o = c.copy_part-4.ensures ∙ simp (e, f, g, o) refl
 
 -- the slice holds the sheet
 room : (s : List ℕ) (n : ℕ) (t : List ℕ) (m size : ℕ) (out : List ℕ) → BothFree s n t m × (size ≡ size_of (joined_lists s t)) × (size ≤ length out)

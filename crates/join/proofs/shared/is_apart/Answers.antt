@@ -1,12 +1,22 @@
 -- `is_apart`: the two waypoints stand in their sheets, and are compared axis by axis.
-use Rattle.std.proofs.Common.{◌≡◌, ◌+◌, ◌*◌, ◌-◌, ◌≤◌, ◌<◌, ◌∙◌, ℕ, List, length, ap, sym, arith, rules}
+use Rattle.std.proofs.Common.{◌≡◌, ◌+◌, ◌*◌, ◌-◌, ◌≤◌, ◌<◌, ◌∙◌, ℕ, pos, List, length, ap, refl, sym, arith, rules}
+use mathlib.Core.List.{flat_map}
+use Rattle.sheet.specs.Bytes.{be16, be32, signed32}
 use Rattle.sheet.specs.Fields.{points, legs, waypoint}
 use Rattle.sheet.proofs.Below.{any_three}
+use Rattle.writer.specs.Sheets.{written_sheet}
 use Rattle.join.specs.Joining.{differ}
+use Rattle.join.specs.Worked.{onward}
 use Rattle.join.specs.Inside.{BothFree}
 use Rattle.join.proofs.Differ.{compared}
 use Rattle.join.proofs.Course.{first_counts, second_counts}
 use Rattle.join.proofs.shared.is_apart.Goals as goal
+use Rattle.join.proofs.shared.is_apart.Goals.{After-waypoint_on-6}
+
+-- tried at the course that goes on from A (W15): the last number that is compared is its height, 24
+height_tried : (c : After-waypoint_on-6) → c.args.second.now ≡ onward → c.waypoint_on-6.result ≡ pos 24
+unfolding be16 be32 signed32 flat_map written_sheet
+height_tried c e = c.waypoint_on-6.ensures ∙ simp e refl
 
 module _ {s : List ℕ} {n : ℕ} {t : List ℕ} {m : ℕ} (f : BothFree s n t m) where
   last_there : (axis : ℕ) → axis < 3 → (n - 1 ≡ legs s) × (axis < 3) × (8 + 2 * (n - 1) + 12 * (n - 1) + 12 ≤ length s)

@@ -41,20 +41,20 @@ pub returns-then-count-n : goal.returns-then-count-n
 returns-then-count-n c =
     let a = c.args in let l = lists a.kind a.legs.now a.waypoints.now a.slopes.now in
     let least = least_of l c.kind_of-ends.ensures c.least_points.ensures in
-    waypoints_stop l a.room c.if-kind-gt2.false (omega arith) c.if-n-gt-MOST_POINTS.false c.if-count-n.true
+    waypoints_stop l a.room c.if-kind-gt2.false (omega arith) c.if-n-gt-MOST_POINTS.false (λ e. omega arith)
 
 pub returns-then-legs-leg_count : goal.returns-then-legs-leg_count
 returns-then-legs-leg_count c =
     let a = c.args in let l = lists a.kind a.legs.now a.waypoints.now a.slopes.now in
     let least = least_of l c.kind_of-ends.ensures c.least_points.ensures in
-    legs_stop l a.room c.if-kind-gt2.false (omega arith) c.if-n-gt-MOST_POINTS.false c.if-count-n.false
+    legs_stop l a.room c.if-kind-gt2.false (omega arith) c.if-n-gt-MOST_POINTS.false (omega arith)
     (λ q. c.if-legs-leg_count.true (q ∙ sym (legs_of l c.kind_of-ends.ensures c.leg_count.ensures)))
 
 pub returns-then-slopes-slope_count : goal.returns-then-slopes-slope_count
 returns-then-slopes-slope_count c =
     let a = c.args in let l = lists a.kind a.legs.now a.waypoints.now a.slopes.now in
     let least = least_of l c.kind_of-ends.ensures c.least_points.ensures in
-    slopes_stop l a.room c.if-kind-gt2.false (omega arith) c.if-n-gt-MOST_POINTS.false c.if-count-n.false
+    slopes_stop l a.room c.if-kind-gt2.false (omega arith) c.if-n-gt-MOST_POINTS.false (omega arith)
     (c.if-legs-leg_count.false ∙ legs_of l c.kind_of-ends.ensures c.leg_count.ensures)
     (λ q. c.if-slopes-slope_count.true (q ∙ sym (slopes_of l c.kind_of-ends.ensures c.slope_count.ensures)))
 
@@ -64,5 +64,5 @@ returns c =
     let least = least_of l k c.least_points.ensures in
     c.answer_numbers.ensures
     ∙ ap (λ (n : ℕ). write_numbers n l.legs l.waypoints l.slopes a.room) (size_is l k c.sheet_length.ensures)
-    ∙ counts_passed l a.room c.if-kind-gt2.false (omega arith) c.if-n-gt-MOST_POINTS.false c.if-count-n.false
+    ∙ counts_passed l a.room c.if-kind-gt2.false (omega arith) c.if-n-gt-MOST_POINTS.false (omega arith)
     (c.if-legs-leg_count.false ∙ legs_of l k c.leg_count.ensures) (c.if-slopes-slope_count.false ∙ slopes_of l k c.slope_count.ensures)

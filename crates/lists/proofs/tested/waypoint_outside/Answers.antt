@@ -1,10 +1,15 @@
 -- `waypoint_outside`: one test for each axis, and the first that holds tells.
-use Rattle.std.proofs.Common.{◌≡◌, ◌+◌, ◌∙◌, ℕ, ℤ, pos, Bool, List, FitsSigned, w64, to_z, of_z, ap, refl, sym, get_or, rules}
+use Rattle.std.proofs.Common.{◌≡◌, ◌+◌, ◌∙◌, ℕ, ℤ, pos, Bool, true, List, FitsSigned, w64, to_z, of_z, ap, refl, sym, get_or, rules}
 use native.Mathlib.Nat.{add-zero}
 use Rattle.integers.proofs.Machine.{back}
 use Rattle.sheet.specs.Reading.{reach_outside}
 use Rattle.sheet.proofs.Below.{any_three}
 use Rattle.lists.proofs.tested.waypoint_outside.Goals as goal
+use Rattle.lists.proofs.tested.waypoint_outside.Goals.{After-reach_outside-3}
+
+-- tried where up is 120,001: the last test tells
+up_tried : (c : After-reach_outside-3) → get_or c.args.waypoints.now (c.args.at + 2) (pos 0) ≡ pos 120_001 → c.reach_outside-3.result ≡ true
+up_tried c e = c.reach_outside-3.ensures ∙ simp e refl
 
 -- a test's answer about the number that was read at k, which is at j
 asked : (waypoints : List ℤ) (axis k : ℕ) {j : ℕ} {a : Bool} → FitsSigned w64 (get_or waypoints k (pos 0))
