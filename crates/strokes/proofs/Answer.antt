@@ -2,9 +2,9 @@
 use mathlib.Core.Path.{◌≡◌, refl, sym, ap, ◌∙◌}
 use mathlib.Core.Bool.{false, false≢true}
 use mathlib.Core.List.{List, [], ◌∷◌, ◌++◌}
-use Prim.Native.Nat.{ℕ, ◌+◌, ◌≤◌, ◌<◌}
+use Prim.Native.Nat.{ℕ, ◌+◌, ◌≤◌}
 use native.Mathlib.Omega.{arith}
-use borrow.Author.Tests.{lt-ltb, le-ltb, ltb-false}
+use borrow.Author.Tests.{le-ltb, ltb-false}
 use lib.Dec.{ltb}
 use lib.IntN.{ℤ, pos, negsuc, nat_abs}
 use lib.ListN.{length, drop}
@@ -13,7 +13,6 @@ use Rattle.sheet.specs.Answers.{Told, refused}
 use Rattle.sheet.specs.Bytes.{any_below}
 use Rattle.sheet.specs.Fields.{points, legs}
 use Rattle.sheet.specs.declared.Refusal.{Refusal}
-use Rattle.sheet.specs.declared.Refusal.TheVariants.{Ink}
 use Rattle.sheet.proofs.Below.{or_right}
 use Rattle.answers.proofs.Guards.{refused_keeps}
 use Rattle.spline.specs.Spline.{next}
@@ -21,16 +20,13 @@ use Rattle.layout.specs.Course.{course}
 use Rattle.place.specs.Places.{bend_outside}
 use Rattle.strokes.specs.Asked.{bends_at}
 use Rattle.strokes.specs.Strokes.{stroke_ends, grain_outside, any_bend, ink_or_ends, left_by}
-use Rattle.strokes.proofs.Worked as worked
+pub use Rattle.strokes.proofs.Worked as worked
 
 -- a refusal leaves the list as it was
 pub refused_by : (r : Refusal) {t : Told} (ends out : List ℕ) → refused r ≡ t → (refused r ≡ t) × (out ≡ left_by t ends out)
 refused_by r {t} ends out e = (e, sym (refused_keeps t (ends ++ drop (length ends) out) out r e))
 
 module _ (s : List ℕ) (list : List ℤ) (t : ℕ) (out : List ℕ) where
-  pub ink : length out < length (stroke_ends s list t) → refused Ink ≡ ink_or_ends s list t (length out)
-  ink h = simp (lt-ltb (length out) (length (stroke_ends s list t)) h)
-
   pub ends_told : length (stroke_ends s list t) ≤ length out
       → ◌≡◌ {A = Told} (record { number = 0; values = pos (length (stroke_ends s list t)) ∷ [] }) (ink_or_ends s list t (length out))
   ends_told h = simp (le-ltb (length out) (length (stroke_ends s list t)) h)

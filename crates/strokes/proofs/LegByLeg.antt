@@ -1,5 +1,5 @@
 -- A course's strokes, leg by leg: what the code asks of each leg, and the ends as a chain from 0 to P. For crate drawn too.
-use mathlib.Core.Path.{◌≡◌, refl, sym, ap, ◌∙◌}
+use mathlib.Core.Path.{◌≡◌, refl, ap, ◌∙◌}
 use mathlib.Core.Bool.{true, false}
 use mathlib.Core.List.{List, [], ◌∷◌, ◌++◌}
 use Prim.Native.Nat.{ℕ, zero, suc, ◌+◌, ◌≤◌, ◌<◌}
@@ -7,8 +7,8 @@ use native.Mathlib.Numerals.{add-one}
 use native.Mathlib.Omega.{arith}
 use borrow.Author.Tests.{eq-eqb, ne_eqb}
 use lib.IntN.{ℤ}
-use lib.ListN.{length, set}
-use lib.Seq.{sets, set-set}
+use lib.ListN.{length}
+use lib.Seq.{sets}
 use Rattle.integers.proofs.Order.{le_or_lt}
 use Rattle.sheet.specs.Bytes.{sum_below}
 use Rattle.sheet.specs.Fields.{kind, points, legs, leg}
@@ -104,14 +104,6 @@ pub few_below : (s : List ℕ) → Accepted s → (list : List ℤ) (t k : ℕ) 
 few_below s a list t k h =
     let e = ends_below_lem s a list t ◌<◌ (λ i h b m some fits q. omega arith) k h in
     omega (arith, ap length e.is_ends, at_most ◌<◌ (λ a b h. h) 0 (sum_below (leg s) k) e.rest e.chained)
-
--- 0 is written once more
-pub first_again : (s : List ℕ) (list : List ℤ) (t : ℕ) (out : List ℕ) (k : ℕ) → sets (set out 0 0) 0 (ends_below s list t k) ≡ sets out 0 (ends_below s list t k)
-unfolding ends_below
-first_again s list t out zero = set-set out 0 0 0
-first_again s list t out (suc k) =
-    let x = ends_below s list t k in let y = leg_ends s list t k in
-    sym (sets_append x y (set out 0 0) 0) ∙ ap (λ r. sets r (0 + length x) y) (first_again s list t out k) ∙ sets_append x y out 0
 
 -- one leg more, as the loop counts
 pub ends_step : (s : List ℕ) (list : List ℤ) (t k : ℕ) → ends_below s list t (k + 1) ≡ ends_below s list t k ++ leg_ends s list t k
