@@ -14,7 +14,7 @@ use Rattle.systems.specs.Rows.{Row, Rows}
 use Rattle.systems.specs.Passes.{at, target, renewed, turn, sweep, pass, passes}
 use Rattle.mirror.specs.Images.{negated, MirrorRows}
 use Rattle.mirror.specs.Theorems.{PassesMirrored}
-use Rattle.mirror.proofs.Worked as worked
+pub use Rattle.mirror.proofs.Worked as worked
 
 -- ---- lists
 negated_set : (zs : List ℤ) (i : ℕ) (z : ℤ) → set (negated zs) i (neg_ℤ z) ≡ negated (set zs i z)
