@@ -10,7 +10,7 @@ use Rattle.integers.proofs.Order.{le_or_lt}
 use Rattle.stretch.specs.Stretches.{ends_by}
 use Rattle.stretch.specs.Chains.{Chain, Each}
 use Rattle.stretch.proofs.Chains.{join, at_most, each_join}
-use Rattle.stretch.proofs.Worked as worked
+pub use Rattle.stretch.proofs.Worked as worked
 
 module _ (keep : ℕ → ℕ → Bool) (from : ℕ) where
   pub ends_kept : (d a m : ℕ) → keep a m ≡ true → ends_by keep from d a m ≡ (from + (a + m)) ∷ []

@@ -2,7 +2,7 @@
 use Rattle.std.proofs.Common.{◌≡◌, ◌+◌, ◌*◌, ◌≤◌, ◌<◌, ◌∙◌, ℕ, ℤ, List, refl, arith}
 use Rattle.integers.proofs.Made.{read}
 use Rattle.systems.specs.Passes.{at}
-use Rattle.stretch.specs.Asked.{Stretch, Small, tabled}
+use Rattle.stretch.specs.Asked.{Stretch, tabled}
 use Rattle.stretch.specs.Stretches.{off}
 use Rattle.stretch.proofs.Tests.{read_place}
 use Rattle.stretch.proofs.test.off_at.Goals as goal
