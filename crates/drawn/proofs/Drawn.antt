@@ -12,7 +12,7 @@ use lib.ListN.{length, drop}
 use Rattle.integers.proofs.Order.{le_or_lt}
 use Rattle.sheet.specs.Answers.{Told}
 use Rattle.sheet.specs.Bytes.{sum_below}
-use Rattle.sheet.specs.Fields.{legs, leg, ticks}
+use Rattle.sheet.specs.Fields.{legs, leg}
 use Rattle.sheet.specs.Reading.{Accepted}
 use Rattle.sheet.specs.declared.Refusal.TheVariants.{Shelf, Bend, Grain, Ink}
 use Rattle.sheet.proofs.Below.{any_none}
