@@ -1,5 +1,6 @@
 -- Arithmetic on whole numbers, for the proofs of every other crate.
 pub mod Laws
+pub mod Horner
 pub mod Ring
 pub mod Order
 pub mod Linear
