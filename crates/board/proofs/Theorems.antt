@@ -24,7 +24,7 @@ use Rattle.station.proofs.Alike.{within_both}
 use Rattle.station.proofs.Claim.{claim_by}
 use Rattle.board.specs.Board.{board_points}
 use Rattle.board.specs.Theorems.{Over, BoardRefuses, BoardAlike, BoardClaim, BoardRoom}
-use Rattle.board.proofs.Worked as tried
+pub use Rattle.board.proofs.Worked as tried
 
 -- a refusal that is said is the first that applies
 said : (limit : ℕ) (s : List ℕ) (q : Refusal) → read_by limit s ≡ Refused q → Lowest limit s q
