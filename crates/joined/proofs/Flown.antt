@@ -1,5 +1,5 @@
 -- The joined course flown (J4, J5): its waypoints are met as every accepted sheet's are, and demand 3 speaks of every accepted sheet.
--- (The worked ticks are named so that they are checked first.)
+-- (The worked ticks are named so that they are checked first, by `pub use`: an import that nothing uses is tidied away.)
 use mathlib.Core.Path.{◌≡◌, sym, ap, ◌∙◌}
 use mathlib.Core.List.{List, [], ◌∷◌}
 use Prim.Native.Nat.{ℕ, ◌+◌, ◌*◌, ◌-◌, ◌≤◌, ◌<◌}
@@ -21,7 +21,7 @@ use Rattle.station.specs.Claim.{Own}
 use Rattle.station.proofs.Claim.{claim, bends_inside}
 use Rattle.station.proofs.Own.{own_long}
 use Rattle.joined.specs.Theorems.{later_tick, JoinedMet, JoinedNear}
-use Rattle.joined.proofs.Worked as worked
+pub use Rattle.joined.proofs.Worked as worked
 use Rattle.joined.proofs.Fields.{j, n_counts, m_counts, all_points, first_waypoint, second_waypoint, first_tick, second_tick, joined_accepted}
 
 -- with own bend numbers a free course meets every waypoint at its tick
