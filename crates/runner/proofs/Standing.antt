@@ -23,8 +23,8 @@ use Rattle.runner.specs.Steps.{landed, off_legs, adrift}
 use Rattle.runner.specs.Theorems.{Stands, FlownParts, TickStands, OneRunner, LegBySums}
 use Rattle.runner.specs.declared.Runner.{Runner}
 use Rattle.runner.proofs.Walk.{Found, walk_finds, walk_only, walk_by_sums, walk_sums}
-
--- checked first, so that a wrong definition fails by its numbers
+-- checked first, so that a wrong definition fails by its numbers (named by `pub use`: an import that nothing uses is tidied away)
+pub use Rattle.runner.proofs.Worked as worked
 
 -- M3, what is left by N11: on a leg, below its length, or at the end of an open course; and no laps on an open one
 abbrev pub LapsFit : List ℕ → Runner → Type 0

@@ -1,9 +1,10 @@
 -- `moved`: a runner that fits the sheet and has not landed is below its leg's length, so nothing wraps, and each way out is the definition's line for the tests
 -- passed on the way.
-use Rattle.std.proofs.Common.{◌≡◌, ◌+◌, ◌≤◌, ◌<◌, ◌∙◌, ℕ, suc, false, List, sym, ap, arith}
+use Rattle.std.proofs.Common.{◌≡◌, ◌+◌, ◌≤◌, ◌<◌, ◌∙◌, ℕ, suc, false, List, refl, sym, ap, arith}
 use native.Mathlib.Numerals.{add-one}
 use borrow.Author.Tests.{lt-ltb, le-ltb}
 use Rattle.ends.specs.declared.EndKind.{EndKind}
+use Rattle.integers.proofs.Tried.{Tried, tried}
 use Rattle.sheet.proofs.Laws.{accepted_bounds}
 use Rattle.sheet.specs.Fields.{kind, legs, leg}
 use Rattle.runner.specs.Ticks.{runner, at_lap, IsRead}
@@ -44,6 +45,10 @@ pub leg_length-requires : goal.leg_length-requires
 leg_length-requires c =
     let g = going _ _ _ _ c.requires.read c.requires.at_value c.requires.at_value_2 in let r = room _ _ _ c.requires.read in omega arith
 
+-- tried at the first waypoint: to offset 1, and no lap is added on leaving it
+step_tried : (c : goal.Then-next-leg_length) → let a = c.args in moved a.s.now a.at ≡ runner 0 1 → a.at.leg ≡ 0 → a.at.offset ≡ 0 → a.at.laps ≡ 0 → Tried
+step_tried c m l u n = tried (λ (need : goal.returns-then-next-leg_length). need c) (◌∙◌ {b = runner 0 1} (simp (l, u, n) refl) (sym m))
+
 pub returns-then-next-leg_length : goal.returns-then-next-leg_length
 unfolding moved
 returns-then-next-leg_length c =
@@ -67,6 +72,10 @@ returns-in-Free c =
 pub returns-in-Held : goal.returns-in-Held
 returns-in-Held c =
     next_offset c.args.at ∙ past_last _ _ _ (sym c.requires.read.is_kind ∙ c.in-Held.is) (omega arith) (omega (arith, c.requires.read.is_legs))
+
+-- tried at the last tick of a closed course, leg 2 and offset 3: round to the first waypoint, a lap flown
+round_tried : (c : goal.After-next_lap) → let a = c.args in a.at ≡ runner 2 3 → moved a.s.now (runner 2 3) ≡ at_lap 1 (runner 0 0) → c.next_lap.result ≡ 1 → Tried
+round_tried c r m n = tried (λ (need : goal.returns-in-Closed). need c) (simp (r, m, n) refl)
 
 pub returns-in-Closed : goal.returns-in-Closed
 returns-in-Closed c =

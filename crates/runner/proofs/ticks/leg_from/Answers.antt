@@ -17,6 +17,9 @@ stopped : (h : ℕ → ℕ) (legs i start tick laps : ℕ) → i < legs → star
     → at_lap laps (runner i (tick - start)) ≡ at_lap laps (walk h (legs - 1) 0 tick)
 stopped h legs i start tick laps p e q till = ap (at_lap laps) ((λ j. runner i (tick - e j)) ∙ walk_by_sums h legs i tick p (omega arith) till)
 
+pub loop-i-init : goal.loop-i-init
+loop-i-init c = record { is_leg = omega arith; is_sum = omega arith; from = omega arith }
+
 pub overflow_add-end : goal.overflow_add-end
 overflow_add-end c =
     let h = leg c.args.s.now in let l = c.loop-i in

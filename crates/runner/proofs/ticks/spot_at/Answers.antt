@@ -1,7 +1,8 @@
 -- `spot_at`: the kept sum at which the walk starts is that of the legs before, and the walk over the sheet's own legs at the reduced tick, at its laps, is the
 -- definition.
-use Rattle.std.proofs.Common.{◌≡◌, ◌*◌, ◌-◌, ◌≤◌, ◌∙◌, ℕ, List, ap, get_or, arith}
+use Rattle.std.proofs.Common.{◌≡◌, ◌*◌, ◌-◌, ◌≤◌, ◌∙◌, ℕ, List, refl, ap, get_or, arith}
 use Rattle.ends.specs.declared.EndKind.{EndKind}
+use Rattle.ends.specs.declared.EndKind.TheVariants.{Closed}
 use Rattle.sheet.proofs.Below.{sum_monotone}
 use Rattle.sheet.proofs.Laws.{accepted_bounds}
 use Rattle.sheet.specs.Bytes.{sum_below}
@@ -10,6 +11,10 @@ use Rattle.sheet.specs.Fields.{leg}
 use Rattle.runner.specs.Ticks.{IsRead, at_lap, reduced, laps_in, walk, spot_at}
 use Rattle.runner.proofs.Room.{room}
 use Rattle.runner.proofs.ticks.spot_at.Goals as goal
+
+-- tried at the tick 9 of a closed course of 8 ticks: 1
+round_tried : (c : goal.After-reduced-here) → let a = c.args in a.kind ≡ Closed → a.ticks ≡ 8 → a.tick ≡ 9 → c.reduced-here.result ≡ 1
+round_tried c k p t = c.reduced-here.ensures ∙ simp (k, p, t) refl
 
 -- the first sum is 0
 from_start : (s : List ℕ) (l : ℕ) (sums : List ℕ) → Carried s l sums → get_or sums 0 0 ≡ 0
