@@ -45,8 +45,9 @@ pub returns-then-grain_outside : goal.returns-then-grain_outside
 unfolding strokes_answer drawn_into
 returns-then-grain_outside c =
     let a = c.args in let k = course a.s.now _ c.read-reading.ensures _ _ _ c.in-Course.is in
-    let (told, ends) = refused_by Grain (stroke_ends a.s.now a.list.now (nat_abs a.tolerance)) a.ends.now
-    (simp (k.read, short_is k a.list.now c.is_short.ensures false c.if-is_short.false, sym (grain_said a.tolerance c.ranges.tolerance c.grain_outside.ensures) ∙ c.if-grain_outside.true)) in
+    let room = short_is k a.list.now c.is_short.ensures false c.if-is_short.false in
+    let grain = sym (grain_said a.tolerance c.ranges.tolerance c.grain_outside.ensures) ∙ c.if-grain_outside.true in
+    let (told, ends) = refused_by Grain (stroke_ends a.s.now a.list.now (nat_abs a.tolerance)) a.ends.now (simp (k.read, room, grain)) in
     record { told = told; ends = ends }
 
 pub leg_count-legs-requires : goal.leg_count-legs-requires
@@ -61,7 +62,8 @@ any_bend-requires c =
     }
 
 -- 12, as the code asks it, is the definition's
-bend_said : {s : List ℕ} {kind : EndKind} {n p : ℕ} → Course s kind n p → (list : List ℤ) {l : ℕ} {b : Bool} → l ≡ legs s → b ≡ any_below (bends_at list n) l → b ≡ any_bend s list
+bend_said : {s : List ℕ} {kind : EndKind} {n p : ℕ} → Course s kind n p → (list : List ℤ) {l : ℕ} {b : Bool} → l ≡ legs s
+    → b ≡ any_below (bends_at list n) l → b ≡ any_bend s list
 bend_said {s} k list is said = said ∙ (λ i. any_below (bends_at list (k.is_points i)) (is i)) ∙ bends_are s list
 
 pub returns-then-any_bend : goal.returns-then-any_bend
@@ -69,8 +71,10 @@ unfolding strokes_answer drawn_into
 returns-then-any_bend c =
     let a = c.args in let k = course a.s.now _ c.read-reading.ensures _ _ _ c.in-Course.is in
     let is = (k.is_read _ c.leg_count-legs.ensures).is_legs in
-    let (told, ends) = refused_by Bend (stroke_ends a.s.now a.list.now (nat_abs a.tolerance)) a.ends.now
-    (simp (k.read, short_is k a.list.now c.is_short.ensures false c.if-is_short.false, sym (grain_said a.tolerance c.ranges.tolerance c.grain_outside.ensures) ∙ c.if-grain_outside.false, sym (bend_said k a.list.now is c.any_bend.ensures) ∙ c.if-any_bend.true)) in
+    let room = short_is k a.list.now c.is_short.ensures false c.if-is_short.false in
+    let grain = sym (grain_said a.tolerance c.ranges.tolerance c.grain_outside.ensures) ∙ c.if-grain_outside.false in
+    let bend = sym (bend_said k a.list.now is c.any_bend.ensures) ∙ c.if-any_bend.true in
+    let (told, ends) = refused_by Bend (stroke_ends a.s.now a.list.now (nat_abs a.tolerance)) a.ends.now (simp (k.read, room, grain, bend)) in
     record { told = told; ends = ends }
 
 pub draw-requires : goal.draw-requires
@@ -96,8 +100,11 @@ returns c =
     let a = c.args in let k = course a.s.now _ c.read-reading.ensures _ _ _ c.in-Course.is in
     let is = (k.is_read _ c.leg_count-legs.ensures).is_legs in
     let same : read a.tolerance ≡ a.tolerance = back refl c.ranges.tolerance in
+    let room = short_is k a.list.now c.is_short.ensures false c.if-is_short.false in
+    let grain = sym (grain_said a.tolerance c.ranges.tolerance c.grain_outside.ensures) ∙ c.if-grain_outside.false in
+    let bend = sym (bend_said k a.list.now is c.any_bend.ensures) ∙ c.if-any_bend.false in
     let chain : strokes_answer a.s.now a.list.now a.tolerance (length a.ends.now) ≡ ink_or_ends a.s.now a.list.now (nat_abs a.tolerance) (length a.ends.now) =
-    simp (k.read, short_is k a.list.now c.is_short.ensures false c.if-is_short.false, sym (grain_said a.tolerance c.ranges.tolerance c.grain_outside.ensures) ∙ c.if-grain_outside.false, sym (bend_said k a.list.now is c.any_bend.ensures) ∙ c.if-any_bend.false) in record {
+    simp (k.read, room, grain, bend) in record {
       told = c.draw.ensures.told ∙ ap (λ z. ink_or_ends a.s.now a.list.now (nat_abs z) (length a.ends.now)) same ∙ sym chain;
       ends = c.draw.ensures.ends
           ∙ ap (λ z. left_by (ink_or_ends a.s.now a.list.now (nat_abs z) (length a.ends.now)) (stroke_ends a.s.now a.list.now (nat_abs z)) a.ends.now) same
