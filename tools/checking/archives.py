@@ -5,14 +5,15 @@ import shutil
 
 # writes down what it is asked for; changes a source while it runs where CHANGED is set; does not prove the crate REFUSED, which it tells late
 STAND_IN = """#!/bin/sh
-echo "$2" >>asked
-[ -z "${CHANGED-}" ] || echo changed >crates/source
-mkdir -p target/staticlib
-echo "int $2_call(void) { return 0; }" | gcc -x c -c - -o "$2.o"
-rm -f "target/staticlib/lib$2.a"
-ar rcs "target/staticlib/lib$2.a" "$2.o"
-[ "$2" != "${REFUSED-}" ] || {
-    echo "$2 NOT PROVED"
+crate=${PWD##*/}
+echo "$1 $crate" >>../../asked
+[ -z "${CHANGED-}" ] || echo changed >../source
+mkdir -p out
+echo "int ${crate}_call(void) { return 0; }" | gcc -x c -c - -o "out/$crate.o"
+rm -f "out/lib$crate.a"
+ar rcs "out/lib$crate.a" "out/$crate.o"
+[ "$crate" != "${REFUSED-}" ] || {
+    echo "$crate NOT PROVED"
     exit 1
 }
 """
@@ -23,7 +24,7 @@ class Root:
 
     def __init__(self, folder, tools, run):
         self.path, self.run = os.path.join(folder, "archives"), run
-        for name in "crates", "tools", "bin":
+        for name in "crates/exports", "crates/board_c", "tools", "bin":
             os.makedirs(os.path.join(self.path, name))
         shutil.copy(os.path.join(tools, "archive"), os.path.join(self.path, "tools"))
         for name, text in ("crates/source", ""), ("crates.txt", ""), ("bin/rt", STAND_IN):
@@ -38,7 +39,7 @@ class Root:
         environment = {**os.environ, "PATH": os.path.join(self.path, "bin") + ":" + os.environ["PATH"], **settings}
         ended = self.run(["tools/archive", *words], where=self.path, env=environment)
         with open(asked) as file:
-            return ended, file.read().split()
+            return ended, file.read().splitlines()
 
     def library(self, name):
         return os.path.join(self.path, "target", "staticlib", f"lib{name}.a")
@@ -52,7 +53,7 @@ class Root:
 
 
 def check_archives(expect, run, tools, folder):
-    root, both, proving = Root(folder, tools, run), ["exports", "board"], b"archive: proving and compiling the libraries"
+    root, both, proving = Root(folder, tools, run), ["lib exports", "lib board_c"], b"archive: proving and compiling the libraries"
 
     def made(what, words, wanted, name):
         ended, asked = root.archive(*words)
@@ -73,7 +74,7 @@ def check_archives(expect, run, tools, folder):
     expect("the same bytes from the same members", root.contents("station") == first)
     os.utime(os.path.join(root.path, "crates", "source"))
     made("after a change", [], both, "station")
-    for name in both:
+    for name in "exports", "board_c":
         os.utime(os.path.join(root.path, "crates.txt"))
         ended, asked = root.archive(REFUSED=name)
         expect(f"{name} not proved", ended.returncode == 1 and f"{name} NOT PROVED".encode() in ended.stderr and not ended.stdout and not root.there(), ended)
