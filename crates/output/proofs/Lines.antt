@@ -12,9 +12,7 @@ use mir.Val.{SFits, to_z, of_z}
 use Rattle.integers.proofs.Machine.{back}
 use Rattle.systems.specs.Passes.{at}
 use Rattle.answers.specs.declared.Outcome.{Outcome}
-use Rattle.sheet.specs.declared.Refusal.{Refusal}
-use Rattle.sheet.proofs.Told.{number_positive}
-use Rattle.answers.specs.declared.Outcome.TheVariants.{Done, Refused}
+use Rattle.answers.specs.declared.Outcome.TheVariants.{Done}
 use Rattle.lines.specs.Lines.{line}
 use Rattle.place.specs.Places.{told_by, place_at_tick}
 use Rattle.output.specs.Output.{line_of, line_at, lines_from}
@@ -49,8 +47,3 @@ module _ (tick : ℕ) (place : List ℤ) (north : SFits w64 (at place 0)) (east 
       → line tick (to_z w64 (of_z w64 (at place 0))) (to_z w64 (of_z w64 (at place 1))) (to_z w64 (of_z w64 (at place 2))) ≡ line_at s list tick
   unfolding line_at
   line_answered s list done told = from_bits ∙ ap (λ t. cond (eqb t.number 0) (line_of tick t.values) []) (rw done at told)
-
--- a tick that gets its place is not refused
-pub not_refused : (s : List ℕ) (list : List ℤ) (tick : ℕ) (place : List ℤ) (r : Refusal) {outcome : Outcome} → outcome ≡ Refused r
-    → told_by outcome place ≡ place_at_tick s list tick → (place_at_tick s list tick).number ≡ 0 → ⊥
-not_refused s list tick place r e told none = omega (arith, ap (λ t. t.number) (rw e at told), number_positive r)
