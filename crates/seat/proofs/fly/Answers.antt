@@ -1,16 +1,18 @@
 -- `fly`: 11 is asked, then 13; a runner that is moved on still fits the sheet, so that its place can be asked for, which says 12 or where it is.
 use Rattle.std.proofs.Common.{◌≡◌, ◌∙◌, false, List, ℤ, ℕ, refl, sym, ap, arith}
+use Rattle.integers.proofs.Tried.{Tried, tried}
 use Rattle.ends.specs.Ends.{leg_count}
 use Rattle.ends.specs.declared.EndKind.{EndKind}
 use Rattle.sheet.proofs.ByKind.{least_two}
 use Rattle.sheet.proofs.Laws.{accepted_bounds}
-use Rattle.sheet.specs.Answers.{Told}
+use Rattle.sheet.specs.Answers.{Told, refused}
 use Rattle.sheet.specs.Fields.{kind, legs}
-use Rattle.sheet.specs.declared.Refusal.TheVariants.{Adrift, Landed}
+use Rattle.sheet.specs.declared.Refusal.TheVariants.{Adrift, Bend, Landed}
 use Rattle.answers.proofs.Guards.{done_changes, refused_keeps}
 use Rattle.answers.specs.declared.Outcome.{Outcome}
 use Rattle.runner.proofs.Onward.{moved_fits}
 use Rattle.runner.proofs.Standing.{standing, leg_below}
+use Rattle.runner.specs.Ticks.{runner}
 use Rattle.runner.specs.Steps.{adrift, landed, moved}
 use Rattle.runner.specs.declared.Runner.{Runner}
 use Rattle.place.specs.Places.{told_by, told_placed, place_held, bend_or_place}
@@ -60,6 +62,10 @@ returns-then-is_landed c =
     let f = sym c.is_adrift.ensures ∙ c.if-is_adrift.false in let e = sym c.is_landed.ensures ∙ c.if-is_landed.true in
     seat_refused c.args.s.now c.args.list.now c.args.from c.kept-then-is_landed.result Landed _ (simp (f, e)) c.kept-then-is_landed.ensures
 
+-- tried: from the first waypoint to offset 1, and the place is asked of the latter
+place_tried : (c : goal.After-moved-moved) → let s = c.args.s.now in c.args.from ≡ runner 0 0 → c.moved-moved.result ≡ runner 0 1 → adrift s (runner 0 1) ≡ false → Tried
+place_tried c r m h = tried (λ (need : goal.place_at-placed-requires). (need c).fits) (simp (r, m) h)
+
 pub place_at-placed-requires : goal.place_at-placed-requires
 place_at-placed-requires c =
     let r = c.requires in let s = c.args.s.now in
@@ -83,6 +89,10 @@ returns-in-Done c =
       refl,
       m ∙ sym (done_changes (flown s list r) (moved s r) r zero_number),
     )
+
+-- tried: at a bad bend number on leg 1 a seat at the last tick of leg 0 stays there
+bend_tried : (c : goal.In-Refused) → let s = c.args.s.now in c.args.from ≡ runner 0 1 → c.moved-moved.result ≡ runner 1 0 → flown s c.args.list.now (runner 0 1) ≡ refused Bend → Tried
+bend_tried c r m f = tried (λ (need : goal.returns-in-Refused). (need c).3) (simp (r, m, f) refl)
 
 pub returns-in-Refused : goal.returns-in-Refused
 returns-in-Refused c =
