@@ -4,12 +4,12 @@ use mathlib.Core.List.{List}
 use Prim.Native.Nat.{ℕ, zero, suc, ◌≤◌, ◌<◌}
 use native.Mathlib.Omega.{arith}
 use lib.IntN.{ℤ}
-use lib.ListN.{length, set, length-set, get_or-eq_default}
+use lib.ListN.{length, length-set, get_or-eq_default}
 use lib.Seq.{get_or-set_same, get_or-set_other}
 use Rattle.integers.proofs.Order.{le_or_lt}
 use Rattle.runner.specs.declared.Runner.{Runner}
 use Rattle.seat.specs.Serving.{served, turn_after, seat_after, nobody}
-use Rattle.fleet.specs.Round.{seat_of, round_answer, turn_given, fleet_after}
+use Rattle.fleet.specs.Round.{seat_of, round_answer, fleet_after}
 use Rattle.flights.specs.Calls.{fleet_at}
 use Rattle.flights.specs.Theorems.{OthersKept, SeatsApart}
 

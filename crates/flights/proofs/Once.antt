@@ -2,7 +2,6 @@
 -- at one i below k.
 use mathlib.Core.Path.{◌≡◌, sym, ap, subst, ◌∙◌}
 use mathlib.Core.Bool.{false}
-use mathlib.Core.List.{List, [], ◌∷◌}
 use mathlib.Core.Logic.{◌⊎◌, inl, inr, ⊎_elim}
 use Prim.Native.Nat.{ℕ, zero, suc, ◌+◌, ◌-◌, ◌≤◌, ◌<◌}
 use native.Mathlib.Omega.{arith}
@@ -10,10 +9,9 @@ use lib.ListN.{length, get_or}
 use borrow.Author.Tests.{eq-eqb, ne_eqb}
 use Rattle.integers.proofs.Order.{le_or_lt}
 use Rattle.seat.specs.Serving.{served, next_turn}
-use Rattle.fleet.specs.Round.{seat_of}
-use Rattle.flights.specs.Calls.{Call, answer, given, shut_out, InARow, Serves}
+use Rattle.flights.specs.Calls.{Call, answer, shut_out, InARow, Serves}
 use Rattle.flights.specs.Theorems.{EverySeatOnce}
-use Rattle.flights.proofs.Admitted.{Admitted, looked_at, goes_on, turn_below, next_given}
+use Rattle.flights.proofs.Admitted.{looked_at, goes_on, turn_below, next_given}
 
 -- a call that is not shut out serves the seat whose turn it is
 serves : (c : Call) → shut_out (answer c).number ≡ false → Serves c c.turn
