@@ -11,8 +11,8 @@
  * [measured]
  *   format:           elf64-x86-64, for Linux (System V calls)
  *   outside symbols:  memset
- *   code:             4957 bytes with constants, data 0, zeroed data 0
- *   deepest stack:    417 bytes (read 305, lay_out 384, place_at_tick 385, place_of_runner 417, runner_at_tick 321, step 321)
+ *   code:             6245 bytes with constants, data 0, zeroed data 0
+ *   deepest stack:    496 bytes (read 292, lay_out 448, place_at_tick 496, place_of_runner 480, runner_at_tick 308, step 308)
  * [/measured]
  */
 #ifndef BOARD_H

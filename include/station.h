@@ -24,9 +24,9 @@
  * board's have a member of their own, board.o, which a program that calls none of them does not link:
  * [measured]
  *   format:           elf64-x86-64, for Linux (System V calls)
- *   outside symbols:  memset
- *   code:             11057 bytes with constants, data 0, zeroed data 0
- *   deepest stack:    7816 bytes (read 305, lay_out 384, place_at_tick 385, place_of_runner 417, runner_at_tick 321, step 321, back 321, write 56, join 369, round 385, strokes 7816)
+ *   outside symbols:  memmove memset
+ *   code:             13515 bytes with constants, data 0, zeroed data 0
+ *   deepest stack:    7392 bytes (read 292, lay_out 448, place_at_tick 496, place_of_runner 480, runner_at_tick 308, step 308, back 308, write 136, join 360, round 448, strokes 7392)
  * [/measured]
  */
 #ifndef STATION_H
