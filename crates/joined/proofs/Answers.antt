@@ -34,11 +34,11 @@ module _ (s t : List ℕ) (w : Meeting s t) where
     second_points = refl;
   }
 
-  not-shut : shut s t ≡ false
-  not-shut = (λ i. is_shut (w.first_free i) || is_shut (w.second_free i))
+  not_shut : shut s t ≡ false
+  not_shut = (λ i. is_shut (w.first_free i) || is_shut (w.second_free i))
 
-  not-apart : apart s t ≡ false
-  not-apart = none_any (λ axis. differ (waypoint s axis (points s - 1)) (waypoint t axis 0)) 3 (λ axis h.
+  not_apart : apart s t ≡ false
+  not_apart = none_any (λ axis. differ (waypoint s axis (points s - 1)) (waypoint t axis 0)) 3 (λ axis h.
       ap (λ x. differ x (waypoint t axis 0)) (w.shared axis h) ∙ same_not (waypoint t axis 0))
 
   pub n_counts : Counts s (points s)
@@ -54,8 +54,8 @@ module _ (s t : List ℕ) (w : Meeting s t) where
   size = omega (arith, size_joined s (points s) t (points t) free, n_counts.some, n_counts.long, m_counts.some, m_counts.long)
 
   -- the room for the joined sheet, in the two sheets' bytes
-  room-same : (room : ℕ) → ltb room (size_of (joined_lists s t)) ≡ ltb (room + 20) (length s + length t)
-  room-same room =
+  room_same : (room : ℕ) → ltb room (size_of (joined_lists s t)) ≡ ltb (room + 20) (length s + length t)
+  room_same room =
       let enough : 20 ≤ length s + length t = omega (arith, n_counts.some, n_counts.long) in
       le_or_lt (length s + length t) (room + 20) _
       (λ h. le-ltb room (size_of (joined_lists s t)) (omega (arith, size)) ∙ sym (le-ltb (room + 20) (length s + length t) h))
@@ -63,11 +63,11 @@ module _ (s t : List ℕ) (w : Meeting s t) where
 
 pub joined_where_few : JoinedWhereFew
 joined_where_few s t w few room =
-    sym (after_crowded s t room w.first w.second (not-shut s t w) (not-apart s t w)
+    sym (after_crowded s t room w.first w.second (not_shut s t w) (not_apart s t w)
     (le-ltb most_points (points_in (joined_lists s t).waypoints) (omega (arith, count s t w))))
-    ∙ (λ i. guard (room-same s t w room i) Page (told_written (Length (size s t w i))))
+    ∙ (λ i. guard (room_same s t w room i) Page (told_written (Length (size s t w i))))
 
 pub crowded_where_more : CrowdedWhereMore
 crowded_where_more s t w more room =
-    sym (crowded_stops s t room w.first w.second (not-shut s t w) (not-apart s t w)
+    sym (crowded_stops s t room w.first w.second (not_shut s t w) (not_apart s t w)
     (lt-ltb most_points (points_in (joined_lists s t).waypoints) (omega (arith, count s t w))))
