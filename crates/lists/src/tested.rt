@@ -9,80 +9,35 @@ use crate::Written;
 use ends::EndKind;
 use sheet::{MOST_POINTS, Refusal};
 
-// N6, of the four legs from `at` on.
-fn four_outside(legs: &[u64], at: usize) -> bool
-    requires { at + 4 ≤ length legs.now }
-    ensures { result ≡ any_below (λ k. leg_outside (get_or legs.now (at + k) 0)) 4 }
-{
-    sheet::leg_outside(legs[at])
-        | sheet::leg_outside(legs[at + 1])
-        | sheet::leg_outside(legs[at + 2])
-        | sheet::leg_outside(legs[at + 3])
-}
-
-// N6, of all legs: four a turn, which takes a third of the time, and then those that are left.
+// N6, of all legs.
 fn legs_outside(legs: &[u64]) -> bool
     ensures { result ≡ some_leg_outside legs.now }
 {
-    let count = legs.len();
-    let mut i = 0;
-    while i + 3 < count {
-        if four_outside(legs, i) {
-            return true;
-        }
-        i = i + 4;
-    }
-    while i < count {
-        if sheet::leg_outside(legs[i]) {
-            return true;
-        }
-        i = i + 1;
-    }
-    false
+    legs.iter().any(|leg| sheet::leg_outside(*leg))
 }
 
-// N7, of the waypoint whose numbers start at `at`.
-fn waypoint_outside(waypoints: &[i64], at: usize) -> bool
-    requires { at + 3 ≤ length waypoints.now }
-    ensures { result ≡ any_below (λ axis. reach_outside axis (get_or waypoints.now (at + axis) (pos 0))) 3 }
+// N7, of one waypoint: north, east and up.
+fn waypoint_outside(waypoint: &[i64]) -> bool
+    ensures { result ≡ any_below (λ axis. reach_outside axis (get_or waypoint.now axis (pos 0))) (length waypoint.now) }
 {
-    if sheet::reach_outside(0, waypoints[at]) {
-        return true;
-    }
-    if sheet::reach_outside(1, waypoints[at + 1]) {
-        return true;
-    }
-    sheet::reach_outside(2, waypoints[at + 2])
+    waypoint
+        .iter()
+        .enumerate()
+        .any(|(axis, z)| sheet::reach_outside(axis, *z))
 }
 
 // N7, of all waypoints; numbers behind the last whole waypoint are not asked.
 fn waypoints_outside(waypoints: &[i64]) -> bool
     ensures { result ≡ some_reach_outside waypoints.now }
 {
-    let count = waypoints.len() / 3;
-    let mut i = 0;
-    while i < count {
-        if waypoint_outside(waypoints, 3 * i) {
-            return true;
-        }
-        i = i + 1;
-    }
-    false
+    waypoints.chunks_exact(3).any(waypoint_outside)
 }
 
 // N8, of all slopes.
 fn slopes_outside(slopes: &[i64]) -> bool
     ensures { result ≡ some_slope_outside slopes.now }
 {
-    let count = slopes.len();
-    let mut i = 0;
-    while i < count {
-        if sheet::slope_outside(slopes[i]) {
-            return true;
-        }
-        i = i + 1;
-    }
-    false
+    slopes.iter().any(|slope| sheet::slope_outside(*slope))
 }
 
 // S8: how many slopes a kind has.
