@@ -2,10 +2,11 @@
 ghost use Rattle.std.specs.Prelude.{◌≡◌, ◌+◌, ◌≤◌, pos, length, get_or};
 ghost use Rattle.sheet.specs.Bytes.{any_below};
 ghost use Rattle.sheet.specs.Reading.{leg_outside, reach_outside};
-ghost use Rattle.lists.specs.Lists.{lists, slope_count};
+ghost use Rattle.lists.specs.Lent.{lent};
+ghost use Rattle.lists.specs.Lists.{slope_count};
 ghost use Rattle.lists.specs.Answer.{some_leg_outside, some_reach_outside, some_slope_outside, told_written, write_numbers, write_sheet};
 
-use crate::Written;
+use crate::{LentLists, Written};
 use ends::EndKind;
 use sheet::{MOST_POINTS, Refusal};
 
@@ -52,22 +53,16 @@ fn slope_count(kind: EndKind) -> usize
 }
 
 // 6 to 8, then 14, of lists that make a sheet of `size` bytes.
-fn answer_numbers(
-    size: usize,
-    legs: &[u64],
-    waypoints: &[i64],
-    slopes: &[i64],
-    room: usize,
-) -> Written
-    ensures { told_written result ≡ write_numbers size legs.now waypoints.now slopes.now room }
+fn answer_numbers(size: usize, course: &LentLists<'_>, room: usize) -> Written
+    ensures { told_written result ≡ write_numbers size course.now.legs.now course.now.waypoints.now course.now.slopes.now room }
 {
-    if legs_outside(legs) {
+    if legs_outside(course.legs) {
         return Written::Refused(Refusal::Leg);
     }
-    if waypoints_outside(waypoints) {
+    if waypoints_outside(course.waypoints) {
         return Written::Refused(Refusal::Reach);
     }
-    if slopes_outside(slopes) {
+    if slopes_outside(course.slopes) {
         return Written::Refused(Refusal::Slope);
     }
     if room < size {
@@ -77,14 +72,14 @@ fn answer_numbers(
 }
 
 // The answer of writing into `room` bytes: 3 to 5 here, then the numbers.
-pub fn answer(kind: u64, legs: &[u64], waypoints: &[i64], slopes: &[i64], room: usize) -> Written
-    ensures { told_written result ≡ write_sheet (lists kind legs.now waypoints.now slopes.now) room }
+pub fn answer(course: &LentLists<'_>, room: usize) -> Written
+    ensures { told_written result ≡ write_sheet (lent course.now) room }
 {
-    if 2 < kind {
+    if 2 < course.kind {
         return Written::Refused(Refusal::Ends);
     }
-    let ends = sheet::kind_of(kind as u8);
-    let count = waypoints.len();
+    let ends = sheet::kind_of(course.kind as u8);
+    let count = course.waypoints.len();
     let n = count / 3;
     if n < ends::least_points(ends) {
         return Written::Refused(Refusal::Points);
@@ -95,11 +90,11 @@ pub fn answer(kind: u64, legs: &[u64], waypoints: &[i64], slopes: &[i64], room: 
     if count != 3 * n {
         return Written::Refused(Refusal::Size);
     }
-    if legs.len() != ends::leg_count(ends, n) {
+    if course.legs.len() != ends::leg_count(ends, n) {
         return Written::Refused(Refusal::Size);
     }
-    if slopes.len() != slope_count(ends) {
+    if course.slopes.len() != slope_count(ends) {
         return Written::Refused(Refusal::Size);
     }
-    answer_numbers(sheet::sheet_length(ends, n), legs, waypoints, slopes, room)
+    answer_numbers(sheet::sheet_length(ends, n), course, room)
 }

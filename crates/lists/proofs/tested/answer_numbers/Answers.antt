@@ -18,7 +18,7 @@ numbers_passed size hs ws ps room l r s =
 
 pub returns-then-room-size : goal.returns-then-room-size
 returns-then-room-size c =
-    let a = c.args in
+    let a = c.args in let k = a.course.now in
     stopped (ltb a.room a.size) Page (told_written (Length a.size)) (lt-ltb a.room a.size (omega arith))
-    ∙ numbers_passed a.size a.legs.now a.waypoints.now a.slopes.now a.room (sym c.legs_outside.ensures ∙ c.if-legs_outside.false)
+    ∙ numbers_passed a.size k.legs.now k.waypoints.now k.slopes.now a.room (sym c.legs_outside.ensures ∙ c.if-legs_outside.false)
     (sym c.waypoints_outside.ensures ∙ c.if-waypoints_outside.false) (sym c.slopes_outside.ensures ∙ c.if-slopes_outside.false)
