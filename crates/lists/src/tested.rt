@@ -1,7 +1,7 @@
 // The tests before anything is written (G3, G4); those of one number are crate sheet's.
-ghost use Rattle.std.specs.Prelude.{◌≡◌, ◌+◌, ◌≤◌, pos, length, get_or};
+ghost use Rattle.std.specs.Prelude.{◌≡◌, pos, length, get_or};
 ghost use Rattle.sheet.specs.Bytes.{any_below};
-ghost use Rattle.sheet.specs.Reading.{leg_outside, reach_outside};
+ghost use Rattle.sheet.specs.Reading.{reach_outside};
 ghost use Rattle.lists.specs.Lent.{lent};
 ghost use Rattle.lists.specs.Lists.{slope_count};
 ghost use Rattle.lists.specs.Answer.{some_leg_outside, some_reach_outside, some_slope_outside, told_written, write_numbers, write_sheet};

@@ -1,10 +1,10 @@
 // A sheet's bytes put into a slice (group S), after all tests.
-ghost use Rattle.std.specs.Prelude.{◌≡◌, ℕ, ◌+◌, ◌*◌, ◌≤◌, ◌<◌, pos, nat_abs, length, get_or, take, drop, slice_get};
+ghost use Rattle.std.specs.Prelude.{◌≡◌, ℕ, ◌+◌, ◌*◌, ◌≤◌, length, take, drop, slice_get};
 ghost use mathlib.Core.List.{flat_map};
 ghost use Rattle.std.specs.Int.{bytes_high_first};
 ghost use Rattle.lists.specs.Lists.{size_of};
 ghost use Rattle.lists.specs.Lent.{lent};
-ghost use Rattle.writer.specs.Sheets.{bytes16, bytes32, bits32, number_bytes, head_bytes, written_sheet};
+ghost use Rattle.writer.specs.Sheets.{head_bytes, written_sheet};
 ghost use Rattle.lists.specs.Inside.{Writable};
 ghost use Rattle.writer.specs.Inside.{over};
 
@@ -18,7 +18,8 @@ fn put<const N: usize>(out: &mut [u8], at: usize, x: u64)
     copy_part(&x.to_be_bytes(), 8 - N, N, out, at);
 }
 
-// S6 to S8: numbers of N bytes each, from `from` on: the legs, the waypoints' or the slopes'; `bits` gives a number's.
+// S6 to S8: numbers of N bytes each, from `from` on: the legs, the waypoints or the slopes; `bits` gives what is put of one. (By places: of
+// `chunks_exact_mut` the check knows afterwards only the length.)
 fn put_all<T: Copy, F: Fn(T) -> u64, const N: usize>(
     out: &mut [u8],
     from: usize,
