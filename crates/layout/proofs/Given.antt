@@ -27,6 +27,10 @@ bounds_course s axis a b = record {
 }
 
 module _ {s : List ℕ} {k : EndKind} {n axis : ℕ} (o : OnSheet s k n axis) where
+  pub course_points : n ≡ (course s axis).points
+  unfolding course
+  course_points = o.same_points
+
   pub same_legs : leg_count k n ≡ legs s
   same_legs = λ i. leg_count (o.same_kind i) (o.same_points i)
 

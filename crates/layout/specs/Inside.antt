@@ -1,5 +1,5 @@
 -- What the functions inside laying out ask and promise of each other. The promise of `lay_out` names none of these words.
-use Rattle.std.specs.Prelude.{◌≡◌, true, false, List, ℕ, ◌+◌, ◌≤◌, ◌<◌, ℤ, pos, nat_abs, length, replicate, ◌≤ℤ◌}
+use Rattle.std.specs.Prelude.{◌≡◌, true, false, List, ℕ, ◌+◌, ◌≤◌, ◌<◌, ℤ, pos, nat_abs, length, replicate, ◌≤ℤ◌, Option, None, Some}
 use Rattle.ends.specs.declared.EndKind.{EndKind}
 use Rattle.ends.specs.declared.EndKind.TheVariants.{Free, Held, Closed}
 use Rattle.sheet.specs.Fields.{kind, points}
@@ -9,8 +9,6 @@ use Rattle.systems.specs.Passes.{at, passes}
 use Rattle.spline.specs.Spline.{rows}
 use Rattle.layout.specs.Course.{course}
 use Rattle.layout.specs.declared.row.Row.{Row}
-use Rattle.layout.specs.declared.row.EndRow.{EndRow}
-use Rattle.layout.specs.declared.row.EndRow.TheVariants.{Absent, Present}
 
 -- the sheet has the bounds of an accepted one, its kind is k and its N is n; and the axis is one of three
 pub record OnSheet (s : List ℕ) (k : EndKind) (n axis : ℕ) : Type 0 where
@@ -47,9 +45,9 @@ pub record Sized (r : Row) : Type 0 where
   pub right : nat_abs r.right ≤ 1_024_000_000
 
 -- the code's answer for an end: no row, or the code's row of one that is present
-abbrev pub RowOfEnd : EndRow → systems.Row → Type 0
-RowOfEnd Absent r = r.present ≡ false
-RowOfEnd (Present w) r = (r.present ≡ true) × (w ≡ code_row r) × Sized w
+abbrev pub RowOfEnd : Option Row → systems.Row → Type 0
+RowOfEnd None r = r.present ≡ false
+RowOfEnd (Some w) r = (r.present ≡ true) × (w ≡ code_row r) × Sized w
 
 -- the bound on every bend number in every pass: 65,536 × 2,005,000
 abbrev pub Small : ℤ → Type 0

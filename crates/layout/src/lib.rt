@@ -1,6 +1,7 @@
 // Laying out a sheet's bend numbers into a lent list (group L): each axis through its own part, by forty passes.
 #![tactic(auto)]
 
+mod axis;
 mod pass;
 mod row;
 
@@ -10,8 +11,21 @@ ghost use Rattle.layout.specs.Inside.{OnSheet};
 ghost use Rattle.layout.specs.Layout.{all_bends, lay_out, laid_out, lay_out_by, laid_out_by};
 
 use answers::Outcome;
+use axis::Axis;
 use ends::EndKind;
 use sheet::{Reading, Refusal};
+
+fn axis_of(s: &[u8], kind: EndKind, n: usize, axis: usize) -> Axis<'_>
+    requires { OnSheet s.now kind n axis }
+    ensures { (result.bytes.now ≡ s.now) × (result.axis ≡ axis) × (result.points ≡ n) }
+{
+    Axis {
+        bytes: s,
+        kind,
+        points: n,
+        axis,
+    }
+}
 
 // L5, F3: each axis is handed its own part of the list, from 0, N and 2N.
 fn lay_axes(s: &[u8], kind: EndKind, n: usize, list: &mut [i64])
@@ -21,9 +35,9 @@ fn lay_axes(s: &[u8], kind: EndKind, n: usize, list: &mut [i64])
     let east = n;
     let up = 2 * n;
     let end = 3 * n;
-    pass::lay_axis(s, kind, n, 0, &mut list[0..east]);
-    pass::lay_axis(s, kind, n, 1, &mut list[east..up]);
-    pass::lay_axis(s, kind, n, 2, &mut list[up..end]);
+    axis_of(s, kind, n, 0).lay(&mut list[0..east]);
+    axis_of(s, kind, n, 1).lay(&mut list[east..up]);
+    axis_of(s, kind, n, 2).lay(&mut list[up..end]);
 }
 
 // Lays the sheet's bend numbers out in the lent list (A3), of sheets with up to `limit` waypoints. Tests 1 to 9; a refused call leaves the list as it is.

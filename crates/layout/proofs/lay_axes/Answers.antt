@@ -10,8 +10,11 @@ use Rattle.layout.proofs.lay_axes.Goals as goal
 pub returns : goal.returns
 unfolding all_bends
 returns c =
-    let size : (axis : ℕ) → axis < 3 → length (bends (course c.args.s.now axis)) ≡ c.args.n =
-    λ axis h. sym (ap length (forty c.args.s.now axis 40 _ refl refl)) ∙ passes_length c.args.s.now axis 40 ∙ sym (c.requires.0 axis h).same_points in
-    three_parts c.args.list.now c.args.n c.lay_axis.new.z c.lay_axis-2.new.z c.lay_axis-3.new.z
-    (ap length c.lay_axis.ensures ∙ size 0 (omega arith)) (ap length c.lay_axis-2.ensures ∙ size 1 (omega arith))
-    ∙ (λ i. (c.lay_axis.ensures i ++ c.lay_axis-2.ensures i ++ c.lay_axis-3.ensures i) ++ drop (3 * c.args.n) c.args.list.now)
+    let a = c.args in
+    let size : (axis : ℕ) → axis < 3 → length (bends (course a.s.now axis)) ≡ a.n =
+    λ axis h. sym (ap length (forty a.s.now axis 40 _ refl refl)) ∙ passes_length a.s.now axis 40 ∙ sym (c.requires.0 axis h).same_points in
+    let north = c.lay.ensures ∙ (λ i. bends (course (c.axis_of.ensures.0 i) (c.axis_of.ensures.1 i))) in
+    let east = c.lay-2.ensures ∙ (λ i. bends (course (c.axis_of-2.ensures.0 i) (c.axis_of-2.ensures.1 i))) in
+    let up = c.lay-3.ensures ∙ (λ i. bends (course (c.axis_of-3.ensures.0 i) (c.axis_of-3.ensures.1 i))) in
+    three_parts a.list.now a.n c.lay.new.z c.lay-2.new.z c.lay-3.new.z (ap length north ∙ size 0 (omega arith)) (ap length east ∙ size 1 (omega arith))
+    ∙ (λ i. (north i ++ east i ++ up i) ++ drop (3 * a.n) a.list.now)

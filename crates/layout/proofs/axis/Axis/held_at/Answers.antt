@@ -1,6 +1,5 @@
 -- `held_at`: the first waypoint has the held start's row, the last the held end's.
-use Rattle.std.proofs.Common.{◌≡◌, ◌+◌, ◌-ℤ◌, ◌∙◌, ℕ, pos, nat_abs, refl, sym, ap, arith}
-use Rattle.ends.specs.declared.EndKind.TheVariants.{Held}
+use Rattle.std.proofs.Common.{◌≡◌, ◌+◌, ◌-ℤ◌, ◌∙◌, ℕ, pos, nat_abs, sym, ap, arith}
 use Rattle.sheet.specs.Fields.{leg, waypoint}
 use Rattle.spline.specs.Spline.{step_after, step_before, held_start_row, held_end_row, row_of}
 use Rattle.layout.specs.Course.{course}
@@ -9,33 +8,34 @@ use Rattle.integers.proofs.Made.{passed}
 use Rattle.layout.proofs.Given.{two_points}
 use Rattle.layout.proofs.Neighbours.{prev_later, next_inner}
 use Rattle.layout.proofs.Rows.{held_start_row_lem, held_end_row_lem}
-use Rattle.layout.proofs.row.held_at.Goals as goal
+use Rattle.layout.proofs.axis.Axis.held_at.Goals as goal
 
 pub returns-then-i-eq0 : goal.returns-then-i-eq0
 unfolding course step_after
 returns-then-i-eq0 c =
-    let o = c.requires.0 in let k = course c.args.s.now c.args.axis in let v = waypoint c.args.s.now c.args.axis in
+    let a = c.args.self.now in let o = a.on_sheet in let k = course a.bytes.now a.axis in let v = waypoint a.bytes.now a.axis in
     let h = passed c.leg_at.ensures.0 c.leg_at.type_inv in
     let one = next_inner k 0 (omega (arith, o.same_points, two_points o)) in
     let d = passed c.value_step-d.ensures.0 c.value_step-d.type_inv ∙ ap (λ (j : ℕ). v j -ℤ v 0) one in
     let p = passed c.slope_at.ensures.0 c.slope_at.type_inv in (
       c.held_start.ensures.0
           ∙ (λ j. code_row (held_start_row 2 1 (nat_abs (h j)) (d j) (p j)))
-          ∙ sym (ap code_row (ap (row_of 2 1 Held k) c.if-i-eq0.true ∙ held_start_row_lem o refl)),
+          ∙ sym (ap code_row (ap (row_of 2 1 a.kind k) c.if-i-eq0.true ∙ held_start_row_lem o c.requires.0)),
       c.held_start.ensures.1,
     )
 
 pub returns : goal.returns
 unfolding course step_before
 returns c =
-    let o = c.requires.0 in let i = c.args.i in let k = course c.args.s.now c.args.axis in let v = waypoint c.args.s.now c.args.axis in
-    let last : i + 1 ≡ c.args.n = c.requires.1 (omega arith) in
+    let a = c.args.self.now in let o = a.on_sheet in let i = c.args.i in
+    let k = course a.bytes.now a.axis in let v = waypoint a.bytes.now a.axis in
+    let last : i + 1 ≡ a.points = c.requires.1 (omega arith) in
     let q = prev_later k i (omega arith) in
-    let g = passed c.leg_at-2.ensures.0 c.leg_at-2.type_inv ∙ ap (λ (j : ℕ). pos (leg c.args.s.now j)) q in
+    let g = passed c.leg_at-2.ensures.0 c.leg_at-2.type_inv ∙ ap (λ (j : ℕ). pos (leg a.bytes.now j)) q in
     let e = passed c.value_step-e.ensures.0 c.value_step-e.type_inv ∙ ap (λ (j : ℕ). v i -ℤ v j) q in
     let p = passed c.slope_at-2.ensures.0 c.slope_at-2.type_inv in (
       c.held_end.ensures.0
           ∙ (λ j. code_row (held_end_row 2 1 (nat_abs (g j)) (e j) (p j)))
-          ∙ sym (ap code_row (held_end_row_lem o refl i last)),
+          ∙ sym (ap code_row (held_end_row_lem o c.requires.0 i last)),
       c.held_end.ensures.1,
     )
