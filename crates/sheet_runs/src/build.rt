@@ -4,15 +4,6 @@ ghost use Rattle.std.specs.Prelude.{◌≤◌};
 use ends::EndKind;
 use std::alloc::{AllocError, Allocator};
 
-// S4: the byte of a kind.
-fn kind_byte(kind: EndKind) -> u8 {
-    match kind {
-        EndKind::Free => 0,
-        EndKind::Held => 1,
-        EndKind::Closed => 2,
-    }
-}
-
 // S6: L. A sheet of no waypoints, which has to be refused, has no legs either.
 fn leg_count(kind: EndKind, n: u16) -> u16 {
     if n == 0 {
@@ -61,7 +52,7 @@ pub fn plain<A: Allocator + Drop>(
 ) -> Result<Vec<u8, A>, AllocError> {
     let mut sheet = Vec::new(alloc);
     sheet.extend_from_slice(&length(kind, n).to_be_bytes())?;
-    sheet.extend_from_slice(&[1, kind_byte(kind)])?;
+    sheet.extend_from_slice(&[1, u64::from(kind) as u8])?;
     sheet.extend_from_slice(&n.to_be_bytes())?;
     for i in 0..leg_count(kind, n) {
         sheet.extend_from_slice(&(1 + i % 256).to_be_bytes())?;
