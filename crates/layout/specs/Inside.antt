@@ -2,20 +2,17 @@
 use Rattle.std.specs.Prelude.{◌≡◌, true, false, List, ℕ, ◌+◌, ◌≤◌, ◌<◌, ℤ, pos, nat_abs, length, replicate, ◌≤ℤ◌, Option, None, Some}
 use Rattle.ends.specs.declared.EndKind.{EndKind}
 use Rattle.ends.specs.declared.EndKind.TheVariants.{Free, Held, Closed}
-use Rattle.sheet.specs.Fields.{kind, points}
-use Rattle.sheet.specs.Theorems.{Bounds}
+use Rattle.sheet.specs.Fields.{points}
 use Rattle.systems.specs.Rows as systems
 use Rattle.systems.specs.Passes.{at, passes}
-use Rattle.spline.specs.Spline.{rows}
+use Rattle.spline.specs.Spline.{Course, rows}
 use Rattle.layout.specs.Course.{course}
+use Rattle.layout.specs.declared.axis.Axis.{Axis}
 use Rattle.layout.specs.declared.row.Row.{Row}
 
--- the sheet has the bounds of an accepted one, its kind is k and its N is n; and the axis is one of three
-pub record OnSheet (s : List ℕ) (k : EndKind) (n axis : ℕ) : Type 0 where
-  pub bounds : Bounds s
-  pub same_kind : k ≡ kind s
-  pub same_points : n ≡ points s
-  pub axis_fits : axis < 3
+-- the course on the axis that the code is at
+abbrev pub along : Axis → Course
+along x = course x.sheet.bytes.now x.axis
 
 -- of n waypoints i is the first, or else the last
 abbrev pub AtEnd : ℕ → ℕ → Type 0
@@ -63,6 +60,6 @@ abbrev pub after_passes : List ℕ → ℕ → ℕ → List ℤ
 after_passes s axis m = passes (rows (course s axis)) 65536 m (replicate (points s) (pos 0))
 
 -- the numbers of some count of passes
-pub record Reached (s : List ℕ) (axis : ℕ) (z : List ℤ) : Type 0 where
+pub record Reached (x : Axis) (z : List ℤ) : Type 0 where
   pub count : ℕ
-  pub numbers : z ≡ after_passes s axis count
+  pub numbers : z ≡ after_passes x.sheet.bytes.now x.axis count

@@ -1,13 +1,13 @@
-// One axis of an accepted sheet: what every step of laying it out is asked of.
-ghost use Rattle.layout.specs.Inside.{OnSheet};
+// One axis of an open sheet (0 is north, 1 east, 2 up). Its rows are in row.rt, its passes in pass.rt.
+ghost use Rattle.std.specs.Prelude.{◌<◌};
+ghost use Rattle.sheet.specs.Theorems.{Bounds};
 
-use ends::EndKind;
+use answers::OpenSheet;
 
 #[derive(Clone, Copy)]
 pub struct Axis<'a> {
-    pub bytes: &'a [u8],
-    pub kind: EndKind,
-    pub points: usize,
+    pub sheet: OpenSheet<'a>,
     pub axis: usize,
-    pub ghost on_sheet: { OnSheet bytes.now kind points axis },
+    pub ghost bounds: { Bounds sheet.bytes.now },
+    pub ghost axis_fits: { axis < 3 },
 }

@@ -3,8 +3,7 @@ ghost use Rattle.std.specs.Prelude.{◌≡◌, false, pos, nat_abs, ◌-ℤ◌, 
 ghost use Rattle.rounding.specs.Rounded.{rounded};
 ghost use Rattle.systems.specs.Passes as systems;
 ghost use Rattle.spline.specs.Spline.{rows, bends};
-ghost use Rattle.layout.specs.Course.{course};
-ghost use Rattle.layout.specs.Inside.{AtEnd, Sized, Small, AllSmall, Reached};
+ghost use Rattle.layout.specs.Inside.{along, AtEnd, Sized, Small, AllSmall, Reached};
 
 use crate::axis::Axis;
 use crate::row::Row;
@@ -26,8 +25,8 @@ fn renewed(row: Row, left: i64, next: i64) -> i64
 impl Axis<'_> {
     // The turn at the first or the last waypoint; where the ends are free there is none. Answers whether its number changed.
     fn turn(&self, i: usize, z: &mut [i64]) -> bool
-        requires { AtEnd self.now.points i × AllSmall self.now.points z.old }
-        ensures number { z.new ≡ systems.turn (rows (course self.now.bytes.now self.now.axis)) 65536 z.old i }
+        requires { AtEnd self.now.sheet.points i × AllSmall self.now.sheet.points z.old }
+        ensures number { z.new ≡ systems.turn (rows (along self.now)) 65536 z.old i }
         ensures settled { result ≡ false → z.new ≡ z.old }
     {
         let Some(row) = self.end_row(i) else {
@@ -42,11 +41,11 @@ impl Axis<'_> {
     // L2: the turns from the first waypoint to the last. Answers whether a number changed. The number just set is the next row's left neighbour; where it is
     // the old one, the old one is taken, so that the next division need not wait for it.
     fn pass(&self, z: &mut [i64]) -> bool
-        requires { Reached self.now.bytes.now self.now.axis z.old }
-        ensures numbers { z.new ≡ systems.pass (rows (course self.now.bytes.now self.now.axis)) 65536 z.old }
+        requires { Reached self.now z.old }
+        ensures numbers { z.new ≡ systems.pass (rows (along self.now)) 65536 z.old }
         ensures settled { result ≡ false → z.new ≡ z.old }
     {
-        let last = self.points - 1;
+        let last = self.sheet.points - 1;
         let mut changed = self.turn(0, z);
         let mut left = z[0];
         for i in 1..last {
@@ -65,8 +64,8 @@ impl Axis<'_> {
 
     // L3: from zeros, forty passes. After one that changed nothing the others would change nothing either.
     pub fn lay(&self, z: &mut [i64])
-        requires { length z.old ≡ self.now.points }
-        ensures { z.new ≡ bends (course self.now.bytes.now self.now.axis) }
+        requires { length z.old ≡ self.now.sheet.points }
+        ensures { z.new ≡ bends (along self.now) }
     {
         z.fill(0);
         for _ in 0..PASSES {

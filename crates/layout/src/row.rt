@@ -3,8 +3,7 @@ ghost use Rattle.std.specs.Prelude.{◌≡◌, ◌≤◌, ◌<◌, pos, nat_abs,
 ghost use Rattle.ends.specs.declared.EndKind.TheVariants.{Held};
 ghost use Rattle.sheet.specs.Fields.{legs, leg, waypoint, slope};
 ghost use Rattle.spline.specs.Spline.{next, prev, inner_row, held_start_row, held_end_row, row_of};
-ghost use Rattle.layout.specs.Course.{course};
-ghost use Rattle.layout.specs.Inside.{AtEnd, Inner, code_row, RowOfEnd, Sized, Leg};
+ghost use Rattle.layout.specs.Inside.{along, AtEnd, Inner, code_row, RowOfEnd, Sized, Leg};
 
 use crate::axis::Axis;
 use ends::EndKind;
@@ -62,58 +61,57 @@ fn held_end(g: i64, e: i64, p: i64) -> Row
 impl Axis<'_> {
     // h(i), the leg that starts at waypoint i.
     fn leg_at(&self, i: usize) -> i64
-        requires { i < legs self.now.bytes.now }
-        ensures { (result ≡ pos (leg self.now.bytes.now i)) × Leg result }
+        requires { i < legs self.now.sheet.bytes.now }
+        ensures { (result ≡ pos (leg self.now.sheet.bytes.now i)) × Leg result }
     {
-        sheet::leg_length(self.bytes, i) as i64
+        sheet::leg_length(self.sheet.bytes, i) as i64
     }
 
     // v(i), the waypoint's value.
     fn value_at(&self, i: usize) -> i64
-        requires { i < self.now.points }
-        ensures { (result ≡ waypoint self.now.bytes.now self.now.axis i) × (nat_abs result ≤ 1_000_000) }
+        requires { i < self.now.sheet.points }
+        ensures { (result ≡ waypoint self.now.sheet.bytes.now self.now.axis i) × (nat_abs result ≤ 1_000_000) }
     {
-        let legs = ends::leg_count(self.kind, self.points);
-        sheet::waypoint_on(self.bytes, legs, self.axis, i)
+        sheet::waypoint_on(self.sheet.bytes, self.sheet.legs(), self.axis, i)
     }
 
     // The slope of a held course, at its start (side 0) or its end (side 1).
     fn slope_at(&self, side: usize) -> i64
-        requires { (self.now.kind ≡ Held) × (side < 2) }
-        ensures { (result ≡ slope self.now.bytes.now self.now.axis side) × (nat_abs result ≤ 5_000) }
+        requires { (self.now.sheet.kind ≡ Held) × (side < 2) }
+        ensures { (result ≡ slope self.now.sheet.bytes.now self.now.axis side) × (nat_abs result ≤ 5_000) }
     {
-        let legs = ends::leg_count(self.kind, self.points);
-        sheet::slope_on(self.bytes, legs, self.points, self.axis, side)
+        let sheet = self.sheet;
+        sheet::slope_on(sheet.bytes, sheet.legs(), sheet.points, self.axis, side)
     }
 
     // The value's step from waypoint i to waypoint j.
     fn value_step(&self, i: usize, j: usize) -> i64
-        requires { (i < self.now.points) × (j < self.now.points) }
-        ensures { (result ≡ waypoint self.now.bytes.now self.now.axis j -ℤ waypoint self.now.bytes.now self.now.axis i) × (nat_abs result ≤ 2_000_000) }
+        requires { (i < self.now.sheet.points) × (j < self.now.sheet.points) }
+        ensures { (result ≡ waypoint self.now.sheet.bytes.now self.now.axis j -ℤ waypoint self.now.sheet.bytes.now self.now.axis i) × (nat_abs result ≤ 2_000_000) }
     {
         self.value_at(j) - self.value_at(i)
     }
 
     // The waypoint before i, the last one before the first.
     pub fn before(&self, i: usize) -> usize
-        requires { i < self.now.points }
-        ensures { (result < self.now.points) × (result ≡ prev (course self.now.bytes.now self.now.axis) i) }
+        requires { i < self.now.sheet.points }
+        ensures { (result < self.now.sheet.points) × (result ≡ prev (along self.now) i) }
     {
-        if i == 0 { self.points - 1 } else { i - 1 }
+        if i == 0 { self.sheet.points - 1 } else { i - 1 }
     }
 
     // The waypoint after i, the first one after the last.
     pub fn after(&self, i: usize) -> usize
-        requires { i < self.now.points }
-        ensures { (result < self.now.points) × (result ≡ next (course self.now.bytes.now self.now.axis) i) }
+        requires { i < self.now.sheet.points }
+        ensures { (result < self.now.sheet.points) × (result ≡ next (along self.now) i) }
     {
-        sheet::end_of(self.points, i)
+        sheet::end_of(self.sheet.points, i)
     }
 
     // A waypoint between two legs; round the end where the course is closed (X2).
     pub fn inner_at(&self, i: usize) -> Row
-        requires { Inner self.now.kind self.now.points i }
-        ensures { (result ≡ code_row (row_of 2 1 self.now.kind (course self.now.bytes.now self.now.axis) i)) × Sized result }
+        requires { Inner self.now.sheet.kind self.now.sheet.points i }
+        ensures { (result ≡ code_row (row_of 2 1 self.now.sheet.kind (along self.now) i)) × Sized result }
     {
         let p = self.before(i);
         let d = self.value_step(i, self.after(i));
@@ -123,8 +121,8 @@ impl Axis<'_> {
 
     // An end of a held course: the first waypoint, or else the last.
     fn held_at(&self, i: usize) -> Row
-        requires { (self.now.kind ≡ Held) × AtEnd self.now.points i }
-        ensures { (result ≡ code_row (row_of 2 1 self.now.kind (course self.now.bytes.now self.now.axis) i)) × Sized result }
+        requires { (self.now.sheet.kind ≡ Held) × AtEnd self.now.sheet.points i }
+        ensures { (result ≡ code_row (row_of 2 1 self.now.sheet.kind (along self.now) i)) × Sized result }
     {
         if i == 0 {
             let d = self.value_step(0, 1);
@@ -137,10 +135,10 @@ impl Axis<'_> {
 
     // The row of the first or the last waypoint: free ends have none (R3).
     pub fn end_row(&self, i: usize) -> Option<Row>
-        requires { AtEnd self.now.points i }
-        ensures { RowOfEnd result (row_of 2 1 self.now.kind (course self.now.bytes.now self.now.axis) i) }
+        requires { AtEnd self.now.sheet.points i }
+        ensures { RowOfEnd result (row_of 2 1 self.now.sheet.kind (along self.now) i) }
     {
-        match self.kind {
+        match self.sheet.kind {
             EndKind::Free => None,
             EndKind::Held => Some(self.held_at(i)),
             EndKind::Closed => Some(self.inner_at(i)),

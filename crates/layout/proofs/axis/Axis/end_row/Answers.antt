@@ -7,18 +7,18 @@ use Rattle.layout.proofs.Rows.{free_absent, held_present, inner_present}
 use Rattle.layout.proofs.axis.Axis.end_row.Goals as goal
 
 pub returns-in-Free : goal.returns-in-Free
-returns-in-Free c = free_absent c.args.self.now.on_sheet c.in-Free.is c.args.i c.requires
+returns-in-Free c = free_absent c.args.self.now c.in-Free.is c.args.i c.requires
 
 pub returns-in-Held : goal.returns-in-Held
-returns-in-Held c = (held_present c.args.self.now.on_sheet c.in-Held.is c.args.i c.requires, c.held_at.ensures.0, c.held_at.ensures.1)
+returns-in-Held c = (held_present c.args.self.now c.in-Held.is c.args.i c.requires, c.held_at.ensures.0, c.held_at.ensures.1)
 
 pub inner_at-requires : goal.inner_at-requires
 inner_at-requires c =
     let a = c.args.self.now in
-    subst (λ (k : EndKind). Inner k a.points c.args.i) (sym c.in-Closed.is) (end_fits a.on_sheet c.args.i c.requires)
+    subst (λ (k : EndKind). Inner k a.sheet.points c.args.i) (sym c.in-Closed.is) (end_fits a c.args.i c.requires)
 
 pub returns-in-Closed : goal.returns-in-Closed
 returns-in-Closed c =
     let a = c.args.self.now in
-    let i = subst (λ (k : EndKind). Inner k a.points c.args.i) (sym c.in-Closed.is) (end_fits a.on_sheet c.args.i c.requires) in
-    (inner_present a.on_sheet c.args.i i, c.inner_at.ensures.0, c.inner_at.ensures.1)
+    let i = subst (λ (k : EndKind). Inner k a.sheet.points c.args.i) (sym c.in-Closed.is) (end_fits a c.args.i c.requires) in
+    (inner_present a c.args.i i, c.inner_at.ensures.0, c.inner_at.ensures.1)

@@ -4,4 +4,4 @@ use Rattle.layout.specs.Inside.{after_passes}
 use Rattle.layout.proofs.axis.Axis.lay.Given as goal
 
 abbrev pub invariant-loop : goal.invariant-loop
-invariant-loop l = l.z ≡ after_passes l.self.bytes.now l.self.axis l.counter
+invariant-loop l = l.z ≡ after_passes l.self.sheet.bytes.now l.self.axis l.counter

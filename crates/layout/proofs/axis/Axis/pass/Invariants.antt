@@ -2,14 +2,13 @@
 use Rattle.std.proofs.Common.{◌≡◌}
 use Rattle.systems.specs.Passes.{at}
 use Rattle.spline.specs.Spline.{prev}
-use Rattle.layout.specs.Course.{course}
-use Rattle.layout.specs.Inside.{AllSmall}
+use Rattle.layout.specs.Inside.{along, AllSmall}
 use Rattle.layout.proofs.Sweep.{Through}
 use Rattle.layout.proofs.axis.Axis.pass.Given as goal
 
 abbrev pub invariant-loop-i : goal.invariant-loop-i
 invariant-loop-i l = record {
-  come : Through l.self.bytes.now l.self.axis l.fn.z l.z l.changed l.i;
-  small : AllSmall l.self.points l.z;
-  left : l.left ≡ at l.z (prev (course l.self.bytes.now l.self.axis) l.i);
+  come : Through l.self l.fn.z l.z l.changed l.i;
+  small : AllSmall l.self.sheet.points l.z;
+  left : l.left ≡ at l.z (prev (along l.self) l.i);
 }
