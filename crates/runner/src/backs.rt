@@ -35,20 +35,16 @@ fn moved_back(s: &[u8], kind: EndKind, legs: usize, at: Runner) -> Runner
     requires at_value { (adrift s.now at ≡ false) × (at_start at ≡ false) }
     ensures { result ≡ moved_back s.now at }
 {
-    let leg = at.leg;
-    let offset = at.offset;
-    let laps = at.laps;
-    if 0 < offset {
+    if 0 < at.offset {
         return Runner {
-            leg,
-            offset: offset - 1,
-            laps,
+            offset: at.offset - 1,
+            ..at
         };
     }
-    if 0 < leg {
-        return last_tick(s, kind, legs, leg - 1, laps);
+    if 0 < at.leg {
+        return last_tick(s, kind, legs, at.leg - 1, at.laps);
     }
-    last_tick(s, kind, legs, legs as u64 - 1, laps - 1)
+    last_tick(s, kind, legs, legs as u64 - 1, at.laps - 1)
 }
 
 // Back by value (A12). Tests 1 to 8, 11 and 15.

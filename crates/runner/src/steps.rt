@@ -42,17 +42,11 @@ pub fn is_adrift(s: &[u8], kind: EndKind, legs: usize, at: Runner) -> bool
     is_off_legs(s, kind, legs, at) | (is_open(kind) & (0 < at.laps))
 }
 
-// M10: the largest count of laps, 2^64 - 1.
-const MOST_LAPS: u64 = 18446744073709551615;
-
-// M10: one lap more, save at the largest count.
+// M10: one lap more, save at the largest count, 2^64 - 1.
 fn next_lap(laps: u64) -> u64
     ensures { result ≡ next_lap laps }
 {
-    if laps == MOST_LAPS {
-        return laps;
-    }
-    laps + 1
+    laps.saturating_add(1)
 }
 
 // One tick on: on its leg, to the start of the next one, to the end of an open course, or round to the first waypoint, which is a lap more.
@@ -62,38 +56,23 @@ pub fn moved(s: &[u8], kind: EndKind, legs: usize, at: Runner) -> Runner
     requires at_value_2 { landed s.now at ≡ false }
     ensures { result ≡ moved s.now at }
 {
-    let leg = at.leg;
     let next = at.offset + 1;
-    let laps = at.laps;
-    if next < leg_length(s, leg as usize) {
-        return Runner {
-            leg,
-            offset: next,
-            laps,
-        };
+    if next < leg_length(s, at.leg as usize) {
+        return Runner { offset: next, ..at };
     }
-    if leg + 1 < legs as u64 {
+    if at.leg + 1 < legs as u64 {
         return Runner {
-            leg: leg + 1,
+            leg: at.leg + 1,
             offset: 0,
-            laps,
+            ..at
         };
     }
     match kind {
-        EndKind::Free => Runner {
-            leg,
-            offset: next,
-            laps,
-        },
-        EndKind::Held => Runner {
-            leg,
-            offset: next,
-            laps,
-        },
+        EndKind::Free | EndKind::Held => Runner { offset: next, ..at },
         EndKind::Closed => Runner {
             leg: 0,
             offset: 0,
-            laps: next_lap(laps),
+            laps: next_lap(at.laps),
         },
     }
 }

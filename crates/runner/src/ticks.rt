@@ -15,8 +15,7 @@ pub fn is_open(kind: EndKind) -> bool
     ensures { result ≡ is_open kind }
 {
     match kind {
-        EndKind::Free => true,
-        EndKind::Held => true,
+        EndKind::Free | EndKind::Held => true,
         EndKind::Closed => false,
     }
 }
@@ -34,8 +33,7 @@ fn reduced(kind: EndKind, ticks: u64, tick: u64) -> u64
     ensures { result ≡ reduced kind ticks tick }
 {
     match kind {
-        EndKind::Free => tick,
-        EndKind::Held => tick,
+        EndKind::Free | EndKind::Held => tick,
         EndKind::Closed => tick % ticks,
     }
 }
@@ -46,8 +44,7 @@ fn laps_in(kind: EndKind, ticks: u64, tick: u64) -> u64
     ensures { result ≡ laps_in kind ticks tick }
 {
     match kind {
-        EndKind::Free => 0,
-        EndKind::Held => 0,
+        EndKind::Free | EndKind::Held => 0,
         EndKind::Closed => tick / ticks,
     }
 }
@@ -59,14 +56,13 @@ fn sixteenth_at(legs: usize, sums: &[u32; SUMS], tick: u64) -> usize
     ensures from { (stride * result < legs) × (get_or sums.now result 0 ≤ tick) }
     ensures till { stride * (result + 1) < legs → tick < get_or sums.now (result + 1) 0 }
 {
-    let mut b = 0;
-    while STRIDE * b + STRIDE < legs {
+    let last = (legs - 1) / STRIDE;
+    for b in 0..last {
         if tick < sums[b + 1] as u64 {
             return b;
         }
-        b = b + 1;
     }
-    b
+    last
 }
 
 // P3, P7: the walk along the legs, from leg `first` and the sum before it on. It carries the sum along; a tick that no leg ends after is on the last. The laps are the caller's.
@@ -75,9 +71,8 @@ fn leg_from(s: &[u8], legs: usize, first: usize, before: u64, tick: u64, laps: u
     requires before_value { (before ≡ sum_below (leg s.now) first) × (before ≤ tick) }
     ensures { result ≡ at_lap laps (walk (leg s.now) (legs - 1) 0 tick) }
 {
-    let mut i = first;
     let mut start = before;
-    while i + 1 < legs {
+    for i in first..legs - 1 {
         let end = start + sheet::leg_length(s, i);
         if tick < end {
             return Runner {
@@ -87,10 +82,9 @@ fn leg_from(s: &[u8], legs: usize, first: usize, before: u64, tick: u64, laps: u
             };
         }
         start = end;
-        i = i + 1;
     }
     Runner {
-        leg: i as u64,
+        leg: legs as u64 - 1,
         offset: tick - start,
         laps,
     }

@@ -7,17 +7,17 @@ use Rattle.runner.proofs.Room.{room}
 use Rattle.runner.proofs.Standing.{standing, leg_below}
 use Rattle.runner.proofs.backs.moved_back.Goals as goal
 
-pub returns-then-offset-gt0 : goal.returns-then-offset-gt0
+pub returns-then-at-gt0 : goal.returns-then-at-gt0
 unfolding moved_back
-returns-then-offset-gt0 c = simp (lt-ltb 0 c.args.at.offset (omega arith))
+returns-then-at-gt0 c = simp (lt-ltb 0 c.args.at.offset (omega arith))
 
 pub last_tick-requires-clause-leg_lt_legs : goal.last_tick-requires-clause-leg_lt_legs
 last_tick-requires-clause-leg_lt_legs c =
     let below = leg_below _ _ (standing _ _ c.requires.at_value.0) in omega (arith, c.requires.read.is_legs)
 
-pub returns-then-leg-gt0 : goal.returns-then-leg-gt0
+pub returns-then-at-gt0-2 : goal.returns-then-at-gt0-2
 unfolding moved_back
-returns-then-leg-gt0 c =
+returns-then-at-gt0-2 c =
     c.last_tick.ensures ∙ simp (le-ltb 0 c.args.at.offset (omega arith), lt-ltb 0 c.args.at.leg (omega arith))
 
 pub overflow_sub-legs : goal.overflow_sub-legs

@@ -3,7 +3,9 @@
 use Rattle.std.proofs.Common.{◌≡◌, ◌+◌, ◌≤◌, ◌<◌, ◌∙◌, ℕ, suc, false, List, refl, sym, ap, arith}
 use native.Mathlib.Numerals.{add-one}
 use borrow.Author.Tests.{lt-ltb, le-ltb}
+use mathlib.Core.Logic.{⊎_elim}
 use Rattle.ends.specs.declared.EndKind.{EndKind}
+use Rattle.ends.specs.declared.EndKind.TheVariants.{Free, Held}
 use Rattle.integers.proofs.Tried.{Tried, tried}
 use Rattle.sheet.proofs.Laws.{accepted_bounds}
 use Rattle.sheet.specs.Fields.{kind, legs, leg}
@@ -54,24 +56,22 @@ unfolding moved
 returns-then-next-leg_length c =
     let s = c.args.s.now in let r = c.args.at in next_offset r ∙ simp (lt-ltb (suc r.offset) (leg s r.leg) (omega arith))
 
-pub overflow_add-leg : goal.overflow_add-leg
-overflow_add-leg c =
+pub overflow_add-at : goal.overflow_add-at
+overflow_add-at c =
     let g = going _ _ _ _ c.requires.read c.requires.at_value c.requires.at_value_2 in let r = room _ _ _ c.requires.read in record { fits = omega arith }
 
-pub returns-then-leg-legs : goal.returns-then-leg-legs
+pub returns-then-at-legs : goal.returns-then-at-legs
 unfolding moved
-returns-then-leg-legs c =
+returns-then-at-legs c =
     let s = c.args.s.now in let r = c.args.at in
     ap (λ i. at_lap r.laps (runner i 0)) (add-one r.leg)
     ∙ simp (le-ltb (suc r.offset) (leg s r.leg) (omega arith), lt-ltb (suc r.leg) (legs s) (omega (arith, c.requires.read.is_legs)))
 
 pub returns-in-Free : goal.returns-in-Free
 returns-in-Free c =
-    next_offset c.args.at ∙ past_last _ _ _ (sym c.requires.read.is_kind ∙ c.in-Free.is) (omega arith) (omega (arith, c.requires.read.is_legs))
-
-pub returns-in-Held : goal.returns-in-Held
-returns-in-Held c =
-    next_offset c.args.at ∙ past_last _ _ _ (sym c.requires.read.is_kind ∙ c.in-Held.is) (omega arith) (omega (arith, c.requires.read.is_legs))
+    let s = c.args.s.now in let r = c.args.at in
+    let ends = λ (k : EndKind) (e : c.args.kind ≡ k). past_last s r k (sym c.requires.read.is_kind ∙ e) (omega arith) (omega (arith, c.requires.read.is_legs)) in
+    next_offset r ∙ ⊎_elim (ends Free) (ends Held) c.in-Free.is
 
 -- tried at the last tick of a closed course, leg 2 and offset 3: round to the first waypoint, a lap flown
 round_tried : (c : goal.After-next_lap) → let a = c.args in a.at ≡ runner 2 3 → moved a.s.now (runner 2 3) ≡ at_lap 1 (runner 0 0) → c.next_lap.result ≡ 1 → Tried
