@@ -12,11 +12,17 @@ use answers::Outcome;
 use ends::EndKind;
 use sheet::{Reading, Refusal, leg_length};
 
+const FIRST: Runner = Runner {
+    leg: 0,
+    offset: 0,
+    laps: 0,
+};
+
 // N15: at the first waypoint with no lap flown.
 fn is_at_start(at: Runner) -> bool
     ensures { result ≡ at_start at }
 {
-    (at.leg == 0) & (at.offset == 0) & (at.laps == 0)
+    at == FIRST
 }
 
 // The last tick of a leg, at a count of laps.

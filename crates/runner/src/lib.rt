@@ -13,7 +13,7 @@ pub use steps::{is_adrift, is_landed, moved, onward_by, step, step_record, stepp
 pub use ticks::{is_past, runner_at_tick, runner_at_tick_by, spot_at};
 
 // M1: which leg, the first being 0, how many ticks along it, and the laps flown.
-#[derive(Clone, Copy)]
+#[derive(Clone, Copy, Debug, PartialEq, Eq)]
 pub struct Runner {
     pub leg: u64,
     pub offset: u64,
