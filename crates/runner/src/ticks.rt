@@ -1,14 +1,15 @@
 // The leg, offset and laps of a tick (P3, P4, P7, M10), and the runner from a tick (A6). For place too.
-ghost use Rattle.std.specs.Prelude.{◌≡◌, ◌&&◌, ℕ, ◌+◌, ◌-◌, ◌*◌, ◌≤◌, ◌<◌, ltb, length, get_or};
+ghost use Rattle.std.specs.Prelude.{◌≡◌, ℕ, ◌+◌, ◌-◌, ◌*◌, ◌≤◌, ◌<◌, length, get_or};
 ghost use Rattle.sheet.specs.Bytes.{sum_below};
 ghost use Rattle.sheet.specs.Carried.{stride, Carried};
-ghost use Rattle.sheet.specs.Fields.{leg, ticks as sum_of_legs};
+ghost use Rattle.sheet.specs.Fields.{legs, leg};
 ghost use Rattle.sheet.specs.Reading.{most_points};
-ghost use Rattle.runner.specs.Ticks.{IsRead, is_open, reduced, laps_in, at_lap, walk, spot_at, runner_at_tick, runner_at_tick_by, told_runner};
+ghost use Rattle.runner.specs.Ticks.{is_open, reduced, laps_in, at_lap, walk, spot_at, past, runner_at_tick, runner_at_tick_by, told_runner};
 
-use crate::{Runner, RunnerAnswer};
+use crate::Runner;
+use answers::OpenSheet;
 use ends::EndKind;
-use sheet::{MOST_POINTS, Reading, Refusal, STRIDE, SUMS};
+use sheet::{MOST_POINTS, Refusal, STRIDE, SUMS};
 
 // An open course has ends, free or held.
 pub fn is_open(kind: EndKind) -> bool
@@ -21,10 +22,10 @@ pub fn is_open(kind: EndKind) -> bool
 }
 
 // N10: an open course has no tick over P.
-pub fn is_past(kind: EndKind, ticks: u64, tick: u64) -> bool
-    ensures { result ≡ (is_open kind && ltb ticks tick) }
+pub fn is_past(sheet: &OpenSheet<'_>, tick: u64) -> bool
+    ensures { result ≡ past sheet.now.bytes.now tick }
 {
-    is_open(kind) & (ticks < tick)
+    is_open(sheet.kind) & (sheet.ticks < tick)
 }
 
 // P4: ticks of a closed course go round.
@@ -91,46 +92,34 @@ fn leg_from(s: &[u8], legs: usize, first: usize, before: u64, tick: u64, laps: u
 }
 
 // The leg and offset of a tick, reduced first, with its laps; reading left the sums.
-pub fn spot_at(
-    s: &[u8],
-    kind: EndKind,
-    legs: usize,
-    ticks: u64,
-    sums: &[u32; SUMS],
-    tick: u64,
-) -> Runner
-    requires read { IsRead s.now kind legs }
-    requires ticks_value { (ticks ≡ sum_of_legs s.now) × Carried s.now legs sums.now }
-    ensures { result ≡ spot_at s.now tick }
+pub fn spot_at(sheet: &OpenSheet<'_>, sums: &[u32; SUMS], tick: u64) -> Runner
+    requires { Carried sheet.now.bytes.now (legs sheet.now.bytes.now) sums.now }
+    ensures { result ≡ spot_at sheet.now.bytes.now tick }
 {
-    let here = reduced(kind, ticks, tick);
-    let laps = laps_in(kind, ticks, tick);
+    let here = reduced(sheet.kind, sheet.ticks, tick);
+    let laps = laps_in(sheet.kind, sheet.ticks, tick);
+    let legs = sheet.legs();
     let b = sixteenth_at(legs, sums, here);
-    leg_from(s, legs, STRIDE * b, sums[b] as u64, here, laps)
+    leg_from(sheet.bytes, legs, STRIDE * b, sums[b] as u64, here, laps)
 }
 
 // The runner from a tick (A6), on sheets with up to `limit` waypoints. Tests 1 to 8 and 10.
-pub fn runner_at_tick_by(limit: usize, s: &[u8], tick: u64) -> RunnerAnswer
+pub fn runner_at_tick_by(limit: usize, s: &[u8], tick: u64) -> Result<Runner, Refusal>
     ensures { told_runner result ≡ runner_at_tick_by limit s.now tick }
 {
     let mut sums = [0u32; SUMS];
-    let reading = sheet::read_with_sums(limit, s, &mut sums);
-    let Reading::Course {
-        kind,
-        points,
-        ticks,
-    } = reading
-    else {
-        return RunnerAnswer::Refused(answers::refusal_of(reading));
+    let reading = answers::open_with_sums(limit, s, &mut sums);
+    let Ok(sheet) = reading else {
+        return Err(reading.unwrap_err());
     };
-    if is_past(kind, ticks, tick) {
-        return RunnerAnswer::Refused(Refusal::Past);
+    if is_past(&sheet, tick) {
+        return Err(Refusal::Past);
     }
-    RunnerAnswer::At(spot_at(s, kind, ends::leg_count(kind, points), ticks, &sums, tick))
+    Ok(spot_at(&sheet, &sums, tick))
 }
 
 // The station's.
-pub fn runner_at_tick(s: &[u8], tick: u64) -> RunnerAnswer
+pub fn runner_at_tick(s: &[u8], tick: u64) -> Result<Runner, Refusal>
     ensures { told_runner result ≡ runner_at_tick s.now tick }
 {
     runner_at_tick_by(MOST_POINTS, s, tick)
