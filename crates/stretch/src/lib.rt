@@ -6,4 +6,4 @@ mod piece;
 mod test;
 
 pub use cuts::{cut, put_end};
-pub use piece::{MOST_PLACES, Stretch};
+pub use piece::{LegPlaces, MOST_PLACES, Stretch};

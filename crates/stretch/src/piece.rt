@@ -5,10 +5,13 @@ ghost use Rattle.stretch.specs.Asked.{SmallUpTo};
 // The places of one axis in the table: a leg of 256 ticks has 257.
 pub const MOST_PLACES: usize = 257;
 
-// H3: `ticks` ticks of a leg from offset `start` on, and the tolerance. `places` has the leg's places, axis by axis.
+// A leg's places, axis by axis.
+pub type LegPlaces = [[i64; MOST_PLACES]; 3];
+
+// H3: `ticks` ticks of a leg from offset `start` on, and the tolerance.
 #[derive(Clone, Copy)]
 pub struct Stretch<'a> {
-    pub places: &'a [[i64; MOST_PLACES]; 3],
+    pub places: &'a LegPlaces,
     pub tolerance: u64,
     pub start: usize,
     pub ticks: usize,
