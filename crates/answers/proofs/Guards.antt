@@ -8,15 +8,15 @@ use Prim.Native.Nat.{ℕ, ◌≤◌}
 use native.Mathlib.Omega.{arith}
 use lib.Dec.{eqb}
 use borrow.Author.Tests.{eq-eqb, ne_eqb}
-use Rattle.sheet.specs.Answers.{Told, told, refused}
+use Rattle.sheet.specs.Answers.{Told, refused, read_course}
 use Rattle.sheet.specs.Fields.{points}
 use Rattle.sheet.specs.Reading.{Accepted, most_points, read_by, read_sheet}
-use Rattle.sheet.specs.declared.Reading.{Reading}
-use Rattle.sheet.specs.declared.Reading.TheVariants as R
+use Rattle.ends.specs.declared.EndKind.{EndKind}
+use Rattle.std.specs.Prelude.{Err}
 use Rattle.sheet.specs.declared.Refusal.{Refusal}
 use Rattle.sheet.proofs.Laws.{within_read, read_or_refused, accepted_bounds}
-use Rattle.sheet.proofs.Told.{number_positive, told_injective}
-use Rattle.answers.specs.Answers.{pass_on, guard, Carries}
+use Rattle.sheet.proofs.Told.{number_positive}
+use Rattle.answers.specs.Answers.{pass_on, guard}
 
 pub never_zero : (r : Refusal) {X : Type 0} → (refused r).number ≡ 0 → X
 never_zero r e = absurd (omega (arith, number_positive r))
@@ -32,11 +32,13 @@ pub not_refused : (b : Bool) (r : Refusal) (rest : Told) → (guard b r rest).nu
 not_refused true r rest e = never_zero r e
 not_refused false r rest e = (refl, e)
 
--- ---- reading in front of a call's tests (A8), by any limit: its refusal as the code has it, and an accepted sheet
+-- ---- reading in front of a call's tests (A8), by any limit: its refusal, a course that it reads, and an accepted sheet
 module _ (limit : ℕ) (s : List ℕ) where
-  pub passed_on : (answer : Reading) → told answer ≡ told (read_by limit s) → (q r : Refusal) (rest : Told) → answer ≡ R.Refused q → Carries answer r
-      → refused r ≡ pass_on (read_by limit s) rest
-  passed_on answer e q r rest a b = ap refused (b q a) ∙ ap (λ x. pass_on x rest) (sym a ∙ told_injective answer (read_by limit s) e)
+  pub passed_on : (r : Refusal) (rest : Told) → read_by limit s ≡ Err r → refused r ≡ pass_on (read_by limit s) rest
+  passed_on r rest e = sym (ap (λ x. pass_on x rest) e)
+
+  pub opened_on : {k : EndKind} {n p : ℕ} (rest : Told) → read_by limit s ≡ read_course k n p → rest ≡ pass_on (read_by limit s) rest
+  opened_on rest e = sym (ap (λ x. pass_on x rest) e)
 
   pub within_on : Accepted s → points s ≤ limit → (rest : Told) → rest ≡ pass_on (read_by limit s) rest
   within_on a h rest = sym (ap (λ x. pass_on x rest) (within_read limit s a h))

@@ -1,27 +1,39 @@
-// What every call after reading shares: its outcome, and the reader's refusal passed on (A8). For layout, runner, place, join, exports and output.
+// What every call after reading begins with (A8): a sheet that reading accepts, opened, or the refusal. For runner, layout, place, strokes, seat, join and boundary.
 #![tactic(auto)]
 
-ghost use Rattle.answers.specs.Answers.{Carries};
+mod opened;
 
-use sheet::{Reading, Refusal};
+ghost use Rattle.std.specs.Prelude.{◌≡◌, length};
+ghost use Rattle.answers.specs.Answers.{Answered};
+ghost use Rattle.sheet.specs.Carried.{CarriedBy, most_sums};
+ghost use Rattle.sheet.specs.Reading.{read_by};
 
-// A3, A7: done, or the refusal.
-#[derive(Clone, Copy)]
-pub enum Outcome {
-    Done,
-    Refused(Refusal),
+pub use opened::OpenSheet;
+use sheet::{Refusal, SUMS};
+
+// A2: reads the sheet, by a reader of up to `limit` waypoints.
+pub fn open(limit: usize, s: &[u8]) -> Result<OpenSheet<'_>, Refusal>
+    ensures { Answered (read_by limit s.now) s.now result }
+{
+    let mut sums = [0u32; SUMS];
+    open_with_sums(limit, s, &mut sums)
 }
 
-// The refusal that a reader's answer carries, for the `else` of a `let .. else`, which cannot bind it. Nothing is promised of a course: callers have none there.
-pub fn refusal_of(reading: Reading) -> Refusal
-    ensures { Carries reading result }
+// P7: the same, for the calls that search a tick's leg: the sums of the sheet's legs stay behind.
+pub fn open_with_sums<'a>(
+    limit: usize,
+    s: &'a [u8],
+    sums: &mut [u32; SUMS],
+) -> Result<OpenSheet<'a>, Refusal>
+    requires { length sums.old ≡ most_sums }
+    ensures answer { Answered (read_by limit s.now) s.now result }
+    ensures sums { CarriedBy (read_by limit s.now) s.now sums.new }
 {
-    match reading {
-        Reading::Refused(r) => r,
-        Reading::Course {
-            kind: _,
-            points: _,
-            ticks: _,
-        } => Refusal::Torn,
-    }
+    let course = sheet::read_with_sums(limit, s, sums)?;
+    Ok(OpenSheet {
+        bytes: s,
+        kind: course.kind,
+        points: course.points,
+        ticks: course.ticks,
+    })
 }

@@ -7,10 +7,8 @@ use lib.ListN.{length, get_or, set}
 use lib.Seq.{get_or-set_same, get_or-set_other}
 use Rattle.integers.proofs.Order.{le_or_lt}
 use Rattle.sheet.specs.Bytes.{sum_below}
-use Rattle.sheet.specs.Carried.{stride, Carried, CarriedBy}
-use Rattle.sheet.specs.Fields.{legs, leg}
-use Rattle.sheet.specs.declared.Reading.{Reading}
-use Rattle.sheet.specs.declared.Reading.TheVariants.{Course, Refused}
+use Rattle.sheet.specs.Carried.{stride}
+use Rattle.sheet.specs.Fields.{leg}
 
 -- the first b of them are kept
 abbrev pub Kept : List ℕ → ℕ → List ℕ → Type 0
@@ -21,8 +19,3 @@ kept_next s sums b sum h e k c i =
     le_or_lt b c (get_or (set sums b sum) c 0 ≡ sum_below (leg s) (stride * c))
     (λ p. let q : b ≡ c = omega arith in subst (λ j. get_or (set sums b sum) j 0 ≡ sum_below (leg s) (stride * j)) q (get_or-set_same sums b sum 0 h ∙ e))
     (λ p. get_or-set_other sums b c sum 0 (λ q. omega arith) ∙ k c p)
-
--- kept of the sheet's own legs: enough, whatever is answered
-pub carried_by : (answer : Reading) (s sums : List ℕ) → Carried s (legs s) sums → CarriedBy answer s sums
-carried_by (Course k n p) s sums h = h
-carried_by (Refused r) s sums h = tt

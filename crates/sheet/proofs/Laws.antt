@@ -11,17 +11,17 @@ use lib.IntN.{nat_abs}
 use lib.ListN.{length}
 use Rattle.ends.specs.Ends.{least_points}
 use Rattle.ends.specs.declared.EndKind.{EndKind}
-use Rattle.ends.specs.declared.EndKind.TheVariants.{Held}
+use Rattle.sheet.specs.declared.Course.{Course}
+use Rattle.ends.specs.declared.EndKind.TheVariants.{Free, Held}
 use Rattle.integers.proofs.Order.{le_or_lt}
-use Rattle.sheet.specs.Answers.{number_of, told}
+use Rattle.sheet.specs.Answers.{number_of, told, Reading, read_course}
 use Rattle.sheet.specs.Bytes.{any_below}
 use Rattle.sheet.specs.Fields.{kind, points, legs, leg, ticks, waypoint, slope, sheet_length}
 use Rattle.sheet.specs.Reading.{Accepted, leg_outside, reach_outside, slope_outside, slopes_outside, applies, refuse_if, lowest, tested, order, most_points, longest_sheet, read_by}
 use Rattle.sheet.specs.Theorems.{ReadOrRefused, ReadAccepted, NeverAtStation, ReadAlike, AcceptedBounds, HeightsKept}
 use Rattle.sheet.specs.declared.Refusal.{Refusal}
 use Rattle.sheet.specs.declared.Refusal.TheVariants.{Torn, Edition, Ends, Points, Size, Leg, Reach, Slope, Shelf, Past, Adrift, Bend, Landed, Page, Start, Shut, Apart, Crowded, Seats, Turn, Grain, Ink, Board}
-use Rattle.sheet.specs.declared.Reading.{Reading}
-use Rattle.sheet.specs.declared.Reading.TheVariants.{Course, Refused}
+use Rattle.std.specs.Prelude.{Ok, Err}
 use Rattle.sheet.proofs.Below.{or_left, or_right, any_none, sum_at_most, sum_at_least}
 use Rattle.sheet.proofs.ByKind.{least_two, legs_at_most, legs_at_least, held_longest}
 use Rattle.sheet.proofs.Lowest.{past, passed, stopped}
@@ -87,8 +87,8 @@ module _ (limit : ℕ) (s : List ℕ) where
   -- the answer x is that of an accepted sheet, or the first number's
   abbrev Answered : Reading → Type 0
   Answered x =
-      (Passed 10 × (x ≡ Course (kind s) (points s) (ticks s)))
-      ⊎ ((r : Refusal) × (x ≡ Refused r) × (applies limit s r ≡ true) × Passed (order r))
+      (Passed 10 × (x ≡ read_course (kind s) (points s) (ticks s)))
+      ⊎ ((r : Refusal) × (x ≡ Err r) × (applies limit s r ≡ true) × Passed (order r))
 
   ask : (r : Refusal) (rs : List Refusal) → Passed (order r)
       → (Passed (suc (order r)) → Answered (lowest limit s rs)) → Answered (lowest limit s (r ∷ rs))
@@ -130,20 +130,28 @@ read_or_refused limit s =
     (λ a. inr (a.0, record { answer = a.1; applying = a.2; lower = a.3 }))
     (answered limit s)
 
+-- the course of an answer
+course_in : Reading → Course
+course_in (Ok c) = c
+course_in (Err r) = record { kind = Free; points = 0; ticks = 0 }
+
 pub read_accepted : ReadAccepted
+unfolding course_in
 read_accepted limit s k n p e =
     ⊎_elim
-    (λ a. let f = a.1 in (a.0, (cc), (cc), (cc), a.2))
+    (λ a.
+    let same : read_course k n p ≡ read_course (kind s) (points s) (ticks s) = sym e ∙ a.1 in
+    (a.0, ap (λ x. (course_in x).kind) same, ap (λ x. (course_in x).points) same, ap (λ x. (course_in x).ticks) same, a.2))
     (λ a. let f = a.1.answer in (absurd (let z : ◌≡◌ {A = ℕ} 0 1 = cc in omega arith)))
     (read_or_refused limit s)
 
 -- what a caller of the reader learns where it got a course
-pub course_read : (limit : ℕ) (s : List ℕ) (r : Reading) (k : EndKind) (n p : ℕ) → told r ≡ told (read_by limit s) → r ≡ Course k n p
+pub course_read : (limit : ℕ) (s : List ℕ) (r : Reading) (k : EndKind) (n p : ℕ) → told r ≡ told (read_by limit s) → r ≡ read_course k n p
     → Accepted s × (k ≡ kind s) × (n ≡ points s) × (p ≡ ticks s) × (points s ≤ limit)
 course_read limit s r k n p e f = read_accepted limit s k n p (sym (told_injective r (read_by limit s) e) ∙ f)
 
 -- the other way: what is accepted, and within the limit, is read ..
-pub within_read : (limit : ℕ) (s : List ℕ) → Accepted s → points s ≤ limit → read_by limit s ≡ Course (kind s) (points s) (ticks s)
+pub within_read : (limit : ℕ) (s : List ℕ) → Accepted s → points s ≤ limit → read_by limit s ≡ read_course (kind s) (points s) (ticks s)
 unfolding read_by
 within_read limit s a h = read_alike limit s h ∙ sym (
     passed most_points s Slope (past 9) (a Slope (omega arith))
@@ -248,7 +256,7 @@ accepted_bounds s a = record {
 }
 
 -- .. at the station without a word about the limit
-pub accepted_read : (s : List ℕ) → Accepted s → read_by most_points s ≡ Course (kind s) (points s) (ticks s)
+pub accepted_read : (s : List ℕ) → Accepted s → read_by most_points s ≡ read_course (kind s) (points s) (ticks s)
 accepted_read s a = within_read most_points s a (few s a)
 
 pub heights_kept : HeightsKept

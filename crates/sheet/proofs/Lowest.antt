@@ -7,7 +7,7 @@ use lib.ListN.{drop}
 use Rattle.sheet.specs.Answers.{number_of}
 use Rattle.sheet.specs.Reading.{applies, refuse_if, lowest, tested, order}
 use Rattle.sheet.specs.declared.Refusal.{Refusal}
-use Rattle.sheet.specs.declared.Reading.TheVariants.{Refused}
+use Rattle.std.specs.Prelude.{Err}
 
 -- the tests stand in the order of their numbers, but for 23
 in_order : map number_of tested ≡ 1 ∷ 2 ∷ 3 ∷ 4 ∷ 23 ∷ 5 ∷ 6 ∷ 7 ∷ 8 ∷ []
@@ -26,5 +26,5 @@ pub passed : (limit : ℕ) (s : List ℕ) (r : Refusal) (rs : List Refusal) → 
 passed limit s r rs e = sym (ap (λ (b : Bool). refuse_if b r (lowest limit s rs)) e)
 
 -- it applies: it is given
-pub stopped : (limit : ℕ) (s : List ℕ) (r : Refusal) (rs : List Refusal) → applies limit s r ≡ true → Refused r ≡ lowest limit s (r ∷ rs)
+pub stopped : (limit : ℕ) (s : List ℕ) (r : Refusal) (rs : List Refusal) → applies limit s r ≡ true → Err r ≡ lowest limit s (r ∷ rs)
 stopped limit s r rs e = sym (ap (λ (b : Bool). refuse_if b r (lowest limit s rs)) e)

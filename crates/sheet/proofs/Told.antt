@@ -11,13 +11,12 @@ use Rattle.ends.specs.Ends.{kind_number}
 use Rattle.ends.specs.declared.EndKind.{EndKind}
 use Rattle.ends.specs.declared.EndKind.TheVariants.{Free, Held, Closed}
 use Rattle.integers.proofs.Order.{le_or_lt}
-use Rattle.sheet.specs.Answers.{number_of, told, Told}
+use Rattle.sheet.specs.Answers.{number_of, told, Told, Reading, read_course}
 use Rattle.sheet.specs.Fields.{kind_of}
 use Rattle.sheet.specs.Reading.{order_of, order}
 use Rattle.sheet.specs.declared.Refusal.{Refusal}
 use Rattle.sheet.specs.declared.Refusal.TheVariants.{Torn, Edition, Ends, Points, Size, Leg, Reach, Slope, Shelf, Past, Adrift, Bend, Landed, Page, Start, Shut, Apart, Crowded, Seats, Turn, Grain, Ink, Board}
-use Rattle.sheet.specs.declared.Reading.{Reading}
-use Rattle.sheet.specs.declared.Reading.TheVariants.{Course, Refused}
+use Rattle.std.specs.Prelude.{Ok, Err}
 
 -- ---- back from a place in the order of the tests; 0, which no refusal has, goes to the first
 refusal_at : ℕ → Refusal
@@ -88,12 +87,12 @@ kind_injective j k e = sym (kind_back j) ∙ ap kind_of e ∙ kind_back k
 
 -- ---- an answer
 values_injective : (j k : EndKind) (m n p q : ℕ)
-    → ◌≡◌ {A = List ℤ} (pos (kind_number j) ∷ pos m ∷ pos p ∷ []) (pos (kind_number k) ∷ pos n ∷ pos q ∷ []) → Course j m p ≡ Course k n q
+    → ◌≡◌ {A = List ℤ} (pos (kind_number j) ∷ pos m ∷ pos p ∷ []) (pos (kind_number k) ∷ pos n ∷ pos q ∷ []) → read_course j m p ≡ read_course k n q
 values_injective j k m n p q e =
     let kinds : kind_number j ≡ kind_number k = cc in let is : j ≡ k = kind_injective j k kinds in cc
 
 pub told_injective : (a b : Reading) → told a ≡ told b → a ≡ b
-told_injective (Course j m p) (Course k n q) e = values_injective j k m n p q (ap (λ (t : Told). t.values) e)
-told_injective (Course j m p) (Refused r) e = let v = ap (λ (t : Told). t.values) e in cc
-told_injective (Refused q) (Course k n p) e = let v = ap (λ (t : Told). t.values) e in cc
-told_injective (Refused q) (Refused r) e = ap Refused (number_injective q r (ap (λ (t : Told). t.number) e))
+told_injective (Ok a) (Ok b) e = values_injective a.kind b.kind a.points b.points a.ticks b.ticks (ap (λ (t : Told). t.values) e)
+told_injective (Ok a) (Err r) e = let v = ap (λ (t : Told). t.values) e in cc
+told_injective (Err q) (Ok b) e = let v = ap (λ (t : Told). t.values) e in cc
+told_injective (Err q) (Err r) e = ap Err (number_injective q r (ap (λ (t : Told). t.number) e))

@@ -1,10 +1,10 @@
 -- Number and values of each case of an answer (F8), which every promise about an answer goes through.
-use Rattle.std.specs.Prelude.{List, [], ◌∷◌, ℕ, ℤ, pos}
+use Rattle.std.specs.Prelude.{List, [], ◌∷◌, ℕ, ℤ, pos, Result, Ok, Err}
 use Rattle.ends.specs.Ends.{kind_number}
 use Rattle.sheet.specs.declared.Refusal.{Refusal}
 use Rattle.sheet.specs.declared.Refusal.TheVariants.{Torn, Edition, Ends, Points, Size, Leg, Reach, Slope, Shelf, Past, Adrift, Bend, Landed, Page, Start, Shut, Apart, Crowded, Seats, Turn, Grain, Ink, Board}
-use Rattle.sheet.specs.declared.Reading.{Reading}
-use Rattle.sheet.specs.declared.Reading.TheVariants.{Course, Refused}
+use Rattle.ends.specs.declared.EndKind.{EndKind}
+use Rattle.sheet.specs.declared.Course.{Course}
 
 -- N1 to N23
 abbrev pub number_of : Refusal → ℕ
@@ -41,7 +41,14 @@ pub record Told : Type 0 where
 abbrev pub refused : Refusal → Told
 refused r = record { number = number_of r; values = [] }
 
+-- what reading answers; and its answer where it reads a course
+abbrev pub Reading : Type 0
+Reading = Result Course Refusal
+
+abbrev pub read_course : EndKind → ℕ → ℕ → Reading
+read_course k n p = Ok (record { kind = k; points = n; ticks = p })
+
 -- A2: kind, N and P
 abbrev pub told : Reading → Told
-told (Course k n p) = record { number = 0; values = pos (kind_number k) ∷ pos n ∷ pos p ∷ [] }
-told (Refused r) = refused r
+told (Ok c) = record { number = 0; values = pos (kind_number c.kind) ∷ pos c.points ∷ pos c.ticks ∷ [] }
+told (Err r) = refused r

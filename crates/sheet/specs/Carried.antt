@@ -1,9 +1,8 @@
 -- The sums of legs that the reader's walk hands over (P7): for the reader, and for the search of a tick's leg.
-use Rattle.std.specs.Prelude.{◌≡◌, List, ℕ, ◌*◌, ◌≤◌, get_or}
+use Rattle.std.specs.Prelude.{◌≡◌, List, ℕ, ◌*◌, ◌≤◌, get_or, Ok, Err}
 use Rattle.sheet.specs.Bytes.{sum_below}
 use Rattle.sheet.specs.Fields.{legs, leg}
-use Rattle.sheet.specs.declared.Reading.{Reading}
-use Rattle.sheet.specs.declared.Reading.TheVariants.{Course, Refused}
+use Rattle.sheet.specs.Answers.{Reading}
 
 -- the legs from one sum that is kept to the next
 abbrev pub stride : ℕ
@@ -19,5 +18,5 @@ Carried s l sums = (b : ℕ) → stride * b ≤ l → get_or sums b 0 ≡ sum_be
 
 -- by the reader's answer: of a course that is read the sums are those of its legs; of a refused sheet nothing is said
 abbrev pub CarriedBy : Reading → List ℕ → List ℕ → Type 0
-CarriedBy (Course k n p) s sums = Carried s (legs s) sums
-CarriedBy (Refused r) s sums = Unit {0}
+CarriedBy (Ok c) s sums = Carried s (legs s) sums
+CarriedBy (Err r) s sums = Unit {0}

@@ -1,16 +1,14 @@
 -- What reading a sheet answers (N1 to N8, N23, A1, A2, A16), by a reader of up to so many waypoints, and which sheets are accepted (A10).
-use Rattle.std.specs.Prelude.{◌≡◌, Bool, true, false, not, cond, ◌&&◌, ◌||◌, List, [], ◌∷◌, ℕ, suc, ◌≤◌, ltb, eqb, ℤ, pos, neg_ℤ, length}
+use Rattle.std.specs.Prelude.{◌≡◌, Bool, true, false, not, cond, ◌&&◌, ◌||◌, List, [], ◌∷◌, ℕ, suc, ◌≤◌, ltb, eqb, ℤ, pos, neg_ℤ, length, Err}
 use Rattle.std.specs.Int.Signed.{lt_z}
 use Rattle.ends.specs.Ends.{least_points}
 use Rattle.ends.specs.declared.EndKind.{EndKind}
 use Rattle.ends.specs.declared.EndKind.TheVariants.{Free, Held, Closed}
-use Rattle.sheet.specs.Answers.{number_of}
+use Rattle.sheet.specs.Answers.{number_of, Reading, read_course}
 use Rattle.sheet.specs.Bytes.{any_below}
 use Rattle.sheet.specs.Fields.{length_field, version, kind_field, kind, points, legs, leg, ticks, waypoint, slope, sheet_length}
 use Rattle.sheet.specs.declared.Refusal.{Refusal}
 use Rattle.sheet.specs.declared.Refusal.TheVariants.{Torn, Edition, Ends, Points, Size, Leg, Reach, Slope, Shelf, Past, Adrift, Bend, Landed, Page, Start, Shut, Apart, Crowded, Seats, Turn, Grain, Ink, Board}
-use Rattle.sheet.specs.declared.Reading.{Reading}
-use Rattle.sheet.specs.declared.Reading.TheVariants.{Course, Refused}
 
 -- z is below -a or above b
 abbrev pub outside : ℕ → ℕ → ℤ → Bool
@@ -76,12 +74,12 @@ applies limit s Grain = false
 applies limit s Ink = false
 
 abbrev pub refuse_if : Bool → Refusal → Reading → Reading
-refuse_if true r answer = Refused r
+refuse_if true r answer = Err r
 refuse_if false r answer = answer
 
 -- A1: the first of the listed refusals that applies, or the course
 abbrev pub lowest : ℕ → List ℕ → List Refusal → Reading
-lowest limit s [] = Course (kind s) (points s) (ticks s)
+lowest limit s [] = read_course (kind s) (points s) (ticks s)
 lowest limit s (r ∷ rs) = refuse_if (applies limit s r) r (lowest limit s rs)
 
 -- A2, A16: what reading tests, the lowest number first, but for 23, which stands between 4 and 5

@@ -1,5 +1,5 @@
 -- What is proved of sheets: an accepted one has the bounds that all later arithmetic rests on, and a sheet is accepted or has exactly one refusal.
-use Rattle.std.specs.Prelude.{◌≡◌, true, false, List, ◌⊎◌, ℕ, ◌≤◌, ◌<◌, pos, neg_ℤ, nat_abs, length, ◌≤ℤ◌}
+use Rattle.std.specs.Prelude.{◌≡◌, true, false, List, ◌⊎◌, ℕ, ◌≤◌, ◌<◌, pos, neg_ℤ, nat_abs, length, ◌≤ℤ◌, Err}
 use Rattle.ends.specs.Ends.{least_points}
 use Rattle.ends.specs.declared.EndKind.{EndKind}
 use Rattle.ends.specs.declared.EndKind.TheVariants.{Held}
@@ -7,21 +7,21 @@ use Rattle.sheet.specs.Fields.{kind, points, legs, leg, ticks, waypoint, slope, 
 use Rattle.sheet.specs.Reading.{Accepted, applies, order, most_points, longest_sheet, read_by}
 use Rattle.sheet.specs.declared.Refusal.{Refusal}
 use Rattle.sheet.specs.declared.Refusal.TheVariants.{Board}
-use Rattle.sheet.specs.declared.Reading.TheVariants.{Course, Refused}
+use Rattle.sheet.specs.Answers.{read_course}
 
 -- A1, A16: the answer is the refusal r, which applies to the sheet, and none that is tested before it does
 pub record Lowest (limit : ℕ) (s : List ℕ) (r : Refusal) : Type 0 where
-  pub answer : read_by limit s ≡ Refused r
+  pub answer : read_by limit s ≡ Err r
   pub applying : applies limit s r ≡ true
   pub lower : (q : Refusal) → order q < order r → applies limit s q ≡ false
 
 -- A1, A10, N23: by a reader of whatever limit a sheet is accepted, within the limit and read, or has exactly one refusal
 abbrev pub ReadOrRefused : Type 0
-ReadOrRefused = (limit : ℕ) (s : List ℕ) → (Accepted s × (read_by limit s ≡ Course (kind s) (points s) (ticks s)) × (points s ≤ limit)) ⊎ ((r : Refusal) × Lowest limit s r)
+ReadOrRefused = (limit : ℕ) (s : List ℕ) → (Accepted s × (read_by limit s ≡ read_course (kind s) (points s) (ticks s)) × (points s ≤ limit)) ⊎ ((r : Refusal) × Lowest limit s r)
 
 -- A2: a sheet that is read is accepted and within the limit, and what reading answers is its fields
 abbrev pub ReadAccepted : Type 0
-ReadAccepted = (limit : ℕ) (s : List ℕ) (k : EndKind) (n p : ℕ) → read_by limit s ≡ Course k n p → Accepted s × (k ≡ kind s) × (n ≡ points s) × (p ≡ ticks s) × (points s ≤ limit)
+ReadAccepted = (limit : ℕ) (s : List ℕ) (k : EndKind) (n p : ℕ) → read_by limit s ≡ read_course k n p → Accepted s × (k ≡ kind s) × (n ≡ points s) × (p ≡ ticks s) × (points s ≤ limit)
 
 -- N23: at the station it applies to no sheet
 abbrev pub NeverAtStation : Type 0

@@ -1,64 +1,42 @@
 // The reader's walk along the legs (N6, P): it carries their sum, and keeps it at every sixteenth leg for the search of a tick's leg (P7).
-ghost use Rattle.std.specs.Prelude.{◌≡◌, ◌+◌, ◌*◌, ◌≤◌, ◌<◌, length};
+ghost use Rattle.std.specs.Prelude.{◌≡◌, ◌+◌, ◌*◌, ◌≤◌, ◌<◌, true, false, length, MatchOption};
 ghost use Rattle.sheet.specs.Bytes.{any_below, sum_below};
 ghost use Rattle.sheet.specs.Fields.{leg};
 ghost use Rattle.sheet.specs.Reading.{leg_outside, most_points};
 ghost use Rattle.sheet.specs.Carried.{Carried, most_sums};
 
-use crate::bytes::narrow;
+use crate::bytes::read_u16;
 use crate::limits::leg_outside;
 use crate::{STRIDE, SUMS};
 
-// The sum of some legs, and whether one of them is outside its limits. (32 bits are enough, and quicker than 64.)
-#[derive(Clone, Copy)]
-pub struct Legs {
-    pub ticks: u32,
-    pub outside: bool,
-}
-
-// Of `count` legs, from leg `from` on: all are summed, also past one that is outside. (A leg is read as a narrow number: of such the compiler has eight in a
-// register.)
-fn add_some(s: &[u8], from: usize, count: usize) -> Legs
+// Of `count` legs, from leg `from` on: their sum, or nothing where one of them is outside its limits. (All are summed before that is asked. A leg is read as a
+// narrow number: of such the compiler has eight in a register. 32 bits are enough for the sum, and quicker than 64.)
+fn add_some(s: &[u8], from: usize, count: usize) -> Option<u32>
     requires { (8 + 2 * (from + count) ≤ length s.now) × (count < 65536) }
-    ensures legs { (result.ticks ≡ sum_below (λ i. leg s.now (from + i)) count) × (result.outside ≡ any_below (λ i. leg_outside (leg s.now (from + i))) count) }
-    ensures fits { result.ticks ≤ 65535 * count }
+    ensures { MatchOption result (any_below (λ i. leg_outside (leg s.now (from + i))) count ≡ true) (λ ticks. (any_below (λ i. leg_outside (leg s.now (from + i))) count ≡ false) × (ticks ≡ sum_below (λ i. leg s.now (from + i)) count) × (ticks ≤ 65535 * count)) }
 {
     let mut ticks = 0u32;
     let mut outside = false;
-    let mut i = 0;
-    while i < count {
-        let at = 8 + 2 * (from + i);
-        let h = narrow(s[at]) * 256 + narrow(s[at + 1]);
-        outside = outside | leg_outside(h as u64);
-        ticks = ticks + h as u32;
-        i = i + 1;
+    for i in 0..count {
+        let h = read_u16(s, 8 + 2 * (from + i));
+        outside |= leg_outside(u64::from(h));
+        ticks += u32::from(h);
     }
-    Legs { ticks, outside }
+    if outside { None } else { Some(ticks) }
 }
 
 // N6, and P, of all legs. (By sixteens: of a count that it knows the compiler takes several legs at a time. Of `% STRIDE` it knows that few are left, and makes
 // no such code for them.)
-pub fn add_legs(s: &[u8], count: usize, sums: &mut [u32; SUMS]) -> Legs
+pub fn add_legs(s: &[u8], count: usize, sums: &mut [u32; SUMS]) -> Option<u32>
     requires { (8 + 2 * count ≤ length s.now) × (count ≤ most_points) × (length sums.old ≡ most_sums) }
-    ensures legs { (result.ticks ≡ sum_below (leg s.now) count) × (result.outside ≡ any_below (λ i. leg_outside (leg s.now i)) count) }
-    ensures sums { Carried s.now count sums.new }
+    ensures { MatchOption result (any_below (λ i. leg_outside (leg s.now i)) count ≡ true) (λ ticks. (any_below (λ i. leg_outside (leg s.now i)) count ≡ false) × (ticks ≡ sum_below (leg s.now) count) × Carried s.now count sums.new) }
 {
     let mut ticks = 0u32;
-    let mut outside = false;
-    let mut from = 0;
-    let mut b = 0;
-    while from + STRIDE <= count {
+    for b in 0..count / STRIDE {
         sums[b] = ticks;
-        let part = add_some(s, from, STRIDE);
-        ticks = ticks + part.ticks;
-        outside = outside | part.outside;
-        from = from + STRIDE;
-        b = b + 1;
+        ticks += add_some(s, STRIDE * b, STRIDE)?;
     }
-    sums[b] = ticks;
-    let rest = add_some(s, from, count % STRIDE);
-    Legs {
-        ticks: ticks + rest.ticks,
-        outside: outside | rest.outside,
-    }
+    sums[count / STRIDE] = ticks;
+    let rest = add_some(s, count - count % STRIDE, count % STRIDE)?;
+    Some(ticks + rest)
 }

@@ -1,28 +1,17 @@
 // The reader (A2, A16), in one walk over the sheet. Its largest N is a number that is handed over: 512 at the station, less on the board.
-ghost use Rattle.std.specs.Prelude.{◌≡◌, cond, ◌||◌, [], ◌∷◌, ◌+◌, ◌*◌, ◌≤◌, ◌<◌, ltb, nat_abs, length};
+ghost use Rattle.std.specs.Prelude.{◌≡◌, cond, ◌||◌, [], ◌∷◌, ◌+◌, ◌*◌, ◌≤◌, ◌<◌, ltb, length};
 ghost use Rattle.sheet.specs.Answers.{told};
 ghost use Rattle.sheet.specs.Bytes.{be16, be32, signed32, any_below};
-ghost use Rattle.sheet.specs.Fields.{kind_field, kind_of, legs, waypoints_from, waypoint, slopes_from, slope_bytes, sheet_length};
+ghost use Rattle.sheet.specs.Fields.{kind_field, kind_of, waypoints_from, waypoint, slopes_from, slope_bytes, sheet_length};
 ghost use Rattle.sheet.specs.Reading.{reach_outside, slope_outside, slopes_outside, most_points, longest_sheet, lowest, read_by, read_sheet};
-ghost use Rattle.sheet.specs.Carried.{Carried, CarriedBy, most_sums};
+ghost use Rattle.sheet.specs.Carried.{CarriedBy, most_sums};
 ghost use Rattle.sheet.specs.declared.Refusal.TheVariants.{Edition, Ends, Points, Size, Leg, Reach, Slope, Board};
 
 use crate::bytes::{read_signed, read16, read32};
 use crate::legs::add_legs;
 use crate::limits::{bits_outside, slope_outside};
-use crate::{LONGEST_SHEET, MOST_POINTS, Reading, Refusal, SUMS};
+use crate::{Course, LONGEST_SHEET, MOST_POINTS, Refusal, SUMS};
 use ends::EndKind;
-
-// S4: the kind of a byte that is 0, 1 or 2. For lists too.
-pub fn kind_of(byte: u8) -> EndKind
-    ensures { result ≡ kind_of byte }
-{
-    match byte {
-        0 => EndKind::Free,
-        1 => EndKind::Held,
-        _ => EndKind::Closed,
-    }
-}
 
 // S9: the bytes of a sheet. For lists too.
 pub fn sheet_length(kind: EndKind, points: usize) -> usize
@@ -44,27 +33,6 @@ fn longest_sheet() -> usize
     LONGEST_SHEET
 }
 
-// One side's three slopes (S8).
-#[derive(Clone, Copy)]
-struct Triple {
-    north: i64,
-    east: i64,
-    up: i64,
-}
-
-// Those that stand from `at` on.
-fn read_triple(s: &[u8], at: usize) -> Triple
-    requires { at + 12 ≤ length s.now }
-    ensures numbers { (result.north ≡ signed32 (be32 s.now at)) × (result.east ≡ signed32 (be32 s.now (at + 4))) × (result.up ≡ signed32 (be32 s.now (at + 8))) }
-    ensures fits { (nat_abs result.north ≤ 2147483648) × (nat_abs result.east ≤ 2147483648) × (nat_abs result.up ≤ 2147483648) }
-{
-    Triple {
-        north: read_signed(s, at),
-        east: read_signed(s, at + 4),
-        up: read_signed(s, at + 8),
-    }
-}
-
 // N7, of the waypoint whose numbers start at `at`. (By returns: with `|` the reader takes a sixth longer.)
 fn waypoint_outside(s: &[u8], at: usize) -> bool
     requires { at + 12 ≤ length s.now }
@@ -84,12 +52,10 @@ fn waypoints_outside(s: &[u8], from: usize, count: usize) -> bool
     requires { (from ≡ waypoints_from s.now) × (from + 12 * count ≤ length s.now) }
     ensures { result ≡ any_below (λ i. any_below (λ axis. reach_outside axis (waypoint s.now axis i)) 3) count }
 {
-    let mut i = 0;
-    while i < count {
+    for i in 0..count {
         if waypoint_outside(s, from + 12 * i) {
             return true;
         }
-        i = i + 1;
     }
     false
 }
@@ -99,8 +65,9 @@ fn side_outside(s: &[u8], at: usize) -> bool
     requires { at + 12 ≤ length s.now }
     ensures { result ≡ any_below (λ axis. slope_outside (signed32 (be32 s.now (at + 4 * axis)))) 3 }
 {
-    let x = read_triple(s, at);
-    slope_outside(x.north) | slope_outside(x.east) | slope_outside(x.up)
+    slope_outside(read_signed(s, at))
+        | slope_outside(read_signed(s, at + 4))
+        | slope_outside(read_signed(s, at + 8))
 }
 
 // N8: slopes are a held course's alone (S8).
@@ -133,76 +100,71 @@ fn over(n: usize) -> Refusal
 }
 
 // N6 to N8, of a sheet to which no lower number applies: the first that does, or the course (A1).
-fn read_body(s: &[u8], kind: EndKind, n: usize, sums: &mut [u32; SUMS]) -> Reading
+fn read_body(s: &[u8], kind: EndKind, n: usize, sums: &mut [u32; SUMS]) -> Result<Course, Refusal>
     requires { (kind ≡ kind_of (kind_field s.now)) × (n ≡ be16 s.now 6) × (2 ≤ n) × (n ≤ most_points) × (length s.now ≡ sheet_length kind n) × (length sums.old ≡ most_sums) }
     ensures answer { result ≡ lowest most_points s.now (Leg ∷ Reach ∷ Slope ∷ []) }
-    ensures sums { Carried s.now (legs s.now) sums.new }
+    ensures sums { CarriedBy result s.now sums.new }
 {
     let count = ends::leg_count(kind, n);
-    let legs = add_legs(s, count, sums);
-    if legs.outside {
-        return Reading::Refused(Refusal::Leg);
-    }
+    let Some(ticks) = add_legs(s, count, sums) else {
+        return Err(Refusal::Leg);
+    };
     let from = 8 + 2 * count;
     if waypoints_outside(s, from, n) {
-        return Reading::Refused(Refusal::Reach);
+        return Err(Refusal::Reach);
     }
     if slopes_outside(s, kind, from + 12 * n) {
-        return Reading::Refused(Refusal::Slope);
+        return Err(Refusal::Slope);
     }
-    Reading::Course {
+    Ok(Course {
         kind,
         points: n,
-        ticks: legs.ticks as u64,
-    }
+        ticks: u64::from(ticks),
+    })
 }
 
 // N2 to N5 and N23, of a sheet that is not torn, then the body. (Apart from N1: behind seven tests in one function the compiler takes the body for unlikely, and the
 // answer goes through memory twice, which is half of a small sheet's time.)
-fn read_fields(limit: usize, s: &[u8], sums: &mut [u32; SUMS]) -> Reading
+fn read_fields(limit: usize, s: &[u8], sums: &mut [u32; SUMS]) -> Result<Course, Refusal>
     requires { (8 ≤ length s.now) × (length sums.old ≡ most_sums) }
     ensures answer { result ≡ lowest limit s.now (Edition ∷ Ends ∷ Points ∷ Board ∷ Size ∷ Leg ∷ Reach ∷ Slope ∷ []) }
     ensures sums { CarriedBy result s.now sums.new }
 {
     if s[4] != 1 {
-        return Reading::Refused(Refusal::Edition);
+        return Err(Refusal::Edition);
     }
-    let ends_byte = s[5];
-    if 2 < ends_byte {
-        return Reading::Refused(Refusal::Ends);
-    }
-    let kind = kind_of(ends_byte);
+    let kind = EndKind::try_from(u64::from(s[5]))?;
     let n = read16(s, 6) as usize;
     if n < ends::least_points(kind) {
-        return Reading::Refused(Refusal::Points);
+        return Err(Refusal::Points);
     }
     if is_over(limit, n) {
-        return Reading::Refused(over(n));
+        return Err(over(n));
     }
     if s.len() != sheet_length(kind, n) {
-        return Reading::Refused(Refusal::Size);
+        return Err(Refusal::Size);
     }
     read_body(s, kind, n, sums)
 }
 
 // N1, then the fields: whatever the bytes, they are read or refused (D1). The sums of a course's legs stay behind (P7).
-pub fn read_with_sums(limit: usize, s: &[u8], sums: &mut [u32; SUMS]) -> Reading
+pub fn read_with_sums(limit: usize, s: &[u8], sums: &mut [u32; SUMS]) -> Result<Course, Refusal>
     requires { length sums.old ≡ most_sums }
     ensures answer { told result ≡ told (read_by limit s.now) }
     ensures sums { CarriedBy result s.now sums.new }
 {
     let length = s.len();
     if length < 8 {
-        return Reading::Refused(Refusal::Torn);
+        return Err(Refusal::Torn);
     }
     if read32(s, 0) != length as u64 {
-        return Reading::Refused(Refusal::Torn);
+        return Err(Refusal::Torn);
     }
     read_fields(limit, s, sums)
 }
 
 // The answer alone, for the calls that search no tick's leg.
-pub fn read_by(limit: usize, s: &[u8]) -> Reading
+pub fn read_by(limit: usize, s: &[u8]) -> Result<Course, Refusal>
     ensures { told result ≡ told (read_by limit s.now) }
 {
     let mut sums = [0u32; SUMS];
@@ -210,7 +172,7 @@ pub fn read_by(limit: usize, s: &[u8]) -> Reading
 }
 
 // The station's reading.
-pub fn read(s: &[u8]) -> Reading
+pub fn read(s: &[u8]) -> Result<Course, Refusal>
     ensures { told result ≡ told (read_sheet s.now) }
 {
     read_by(MOST_POINTS, s)

@@ -1,0 +1,28 @@
+// A sheet that was read and accepted (A2, A10), with what reading answered. What is known of it stands in the type, for every function that is handed one.
+ghost use Rattle.std.specs.Prelude.{◌≡◌};
+ghost use Rattle.sheet.specs.Fields.{kind as kind_in, points as points_in, ticks as ticks_in, legs as legs_in};
+ghost use Rattle.sheet.specs.Reading.{Accepted};
+
+use ends::EndKind;
+
+// Its bytes, and its kind, N and P.
+#[derive(Clone, Copy)]
+pub struct OpenSheet<'a> {
+    pub bytes: &'a [u8],
+    pub kind: EndKind,
+    pub points: usize,
+    pub ticks: u64,
+    pub ghost accepted: { Accepted bytes.now },
+    pub ghost is_kind: { kind ≡ kind_in bytes.now },
+    pub ghost is_points: { points ≡ points_in bytes.now },
+    pub ghost is_ticks: { ticks ≡ ticks_in bytes.now },
+}
+
+impl<'a> OpenSheet<'a> {
+    // S6: L.
+    pub fn legs(&self) -> usize
+        ensures { result ≡ legs_in self.now.bytes.now }
+    {
+        ends::leg_count(self.kind, self.points)
+    }
+}
