@@ -5,12 +5,4 @@ mod lent;
 mod tested;
 
 pub use lent::LentLists;
-use sheet::Refusal;
 pub use tested::answer;
-
-// A11: the sheet's length, or the refusal.
-#[derive(Clone, Copy)]
-pub enum Written {
-    Length(usize),
-    Refused(Refusal),
-}

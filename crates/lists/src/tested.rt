@@ -2,11 +2,12 @@
 ghost use Rattle.std.specs.Prelude.{◌≡◌, pos, length, get_or};
 ghost use Rattle.sheet.specs.Bytes.{any_below};
 ghost use Rattle.sheet.specs.Reading.{reach_outside};
+ghost use Rattle.answers.specs.Answers.{told_count};
 ghost use Rattle.lists.specs.Lent.{lent};
 ghost use Rattle.lists.specs.Lists.{slope_count};
-ghost use Rattle.lists.specs.Answer.{some_leg_outside, some_reach_outside, some_slope_outside, told_written, write_numbers, write_sheet};
+ghost use Rattle.lists.specs.Answer.{some_leg_outside, some_reach_outside, some_slope_outside, write_numbers, write_sheet};
 
-use crate::{LentLists, Written};
+use crate::LentLists;
 use ends::EndKind;
 use sheet::{MOST_POINTS, Refusal};
 
@@ -53,48 +54,45 @@ fn slope_count(kind: EndKind) -> usize
 }
 
 // 6 to 8, then 14, of lists that make a sheet of `size` bytes.
-fn answer_numbers(size: usize, course: &LentLists<'_>, room: usize) -> Written
-    ensures { told_written result ≡ write_numbers size course.now.legs.now course.now.waypoints.now course.now.slopes.now room }
+fn answer_numbers(size: usize, course: &LentLists<'_>, room: usize) -> Result<usize, Refusal>
+    ensures { told_count result ≡ write_numbers size course.now.legs.now course.now.waypoints.now course.now.slopes.now room }
 {
     if legs_outside(course.legs) {
-        return Written::Refused(Refusal::Leg);
+        return Err(Refusal::Leg);
     }
     if waypoints_outside(course.waypoints) {
-        return Written::Refused(Refusal::Reach);
+        return Err(Refusal::Reach);
     }
     if slopes_outside(course.slopes) {
-        return Written::Refused(Refusal::Slope);
+        return Err(Refusal::Slope);
     }
     if room < size {
-        return Written::Refused(Refusal::Page);
+        return Err(Refusal::Page);
     }
-    Written::Length(size)
+    Ok(size)
 }
 
 // The answer of writing into `room` bytes: 3 to 5 here, then the numbers.
-pub fn answer(course: &LentLists<'_>, room: usize) -> Written
-    ensures { told_written result ≡ write_sheet (lent course.now) room }
+pub fn answer(course: &LentLists<'_>, room: usize) -> Result<usize, Refusal>
+    ensures { told_count result ≡ write_sheet (lent course.now) room }
 {
-    if 2 < course.kind {
-        return Written::Refused(Refusal::Ends);
-    }
-    let ends = sheet::kind_of(course.kind as u8);
+    let kind = EndKind::try_from(course.kind)?;
     let count = course.waypoints.len();
     let n = count / 3;
-    if n < ends::least_points(ends) {
-        return Written::Refused(Refusal::Points);
+    if n < ends::least_points(kind) {
+        return Err(Refusal::Points);
     }
     if MOST_POINTS < n {
-        return Written::Refused(Refusal::Points);
+        return Err(Refusal::Points);
     }
     if count != 3 * n {
-        return Written::Refused(Refusal::Size);
+        return Err(Refusal::Size);
     }
-    if course.legs.len() != ends::leg_count(ends, n) {
-        return Written::Refused(Refusal::Size);
+    if course.legs.len() != ends::leg_count(kind, n) {
+        return Err(Refusal::Size);
     }
-    if course.slopes.len() != slope_count(ends) {
-        return Written::Refused(Refusal::Size);
+    if course.slopes.len() != slope_count(kind) {
+        return Err(Refusal::Size);
     }
-    answer_numbers(sheet::sheet_length(ends, n), course, room)
+    answer_numbers(sheet::sheet_length(kind, n), course, room)
 }
