@@ -5,7 +5,7 @@ ghost use Rattle.strokes.specs.Strokes.{places_on, leg_ends};
 ghost use Rattle.strokes.specs.Asked.{Filled, Table, OnLegOf};
 
 use place::Leg;
-use stretch::{LegPlaces, MOST_PLACES, Stretch, cut};
+use stretch::{LegPlaces, MOST_PLACES, TabledLeg};
 
 // The leg's places on one axis, offset by offset.
 fn put_places(leg: &Leg<'_>, axis: usize, x: &mut [i64; MOST_PLACES])
@@ -41,11 +41,11 @@ pub fn leg_ends(
     ensures ends { ends.new ≡ sets ends.old n (leg_ends leg.now.laid.sheet.bytes.now leg.now.laid.list.now tolerance leg.now.start) }
 {
     put_table(leg, places);
-    let whole = Stretch {
+    let tabled = TabledLeg {
         places,
         tolerance,
-        start: 0,
+        from,
         ticks: leg.ticks as usize,
     };
-    cut(whole, from, ends, n)
+    tabled.cut(0, tabled.ticks, ends, n)
 }

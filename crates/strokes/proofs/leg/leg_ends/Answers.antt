@@ -12,24 +12,26 @@ use Rattle.strokes.proofs.Places.{place_small}
 use Rattle.strokes.proofs.Tables.{ends_same}
 use Rattle.strokes.proofs.leg.leg_ends.Goals as goal
 
-pub invariant_of-whole : goal.invariant_of-whole
-invariant_of-whole c =
+pub invariant_of-tabled : goal.invariant_of-tabled
+invariant_of-tabled c =
     let l = c.args.leg.now in let s = l.laid.sheet.bytes.now in let a = l.laid.sheet.accepted in let i = l.start in
-    let bounds = accepted_bounds s a in let table = c.put_table.ensures in
+    let table = c.put_table.ensures in
     record {
       fine = c.requires.0;
-      some = omega (arith, l.is_ticks, bounds.leg_low i l.fits);
-      within = omega (arith, l.is_ticks, bounds.leg_high i l.fits);
+      few = omega (arith, l.is_ticks, (accepted_bounds s a).leg_high i l.fits);
+      near = omega (arith, l.is_ticks, c.requires.1.starts, leg_ends_by s a i l.fits);
       small = λ axis u k up.
-          rw (table.at_offset axis u k (omega arith))
+          rw (table.at_offset axis u k up)
           (place_small s a l.laid.list.now i l.fits l.inside (rw (← l.is_end) l.end_fits) axis u k (omega (arith, l.is_ticks)));
     }
 
 pub cut-requires : goal.cut-requires
 cut-requires c =
-    let l = c.args.leg.now in let on = c.requires.1 in
-    let e = leg_ends_by l.laid.sheet.bytes.now l.laid.sheet.accepted l.start l.fits in
-    record { tick = omega (arith, l.is_ticks, on.starts); count = omega (arith, l.is_ticks, on.starts, on.counted) }
+    let l = c.args.leg.now in let s = l.laid.sheet.bytes.now in let a = l.laid.sheet.accepted in let on = c.requires.1 in
+    record {
+      stretch = (omega (arith, l.is_ticks, (accepted_bounds s a).leg_low l.start l.fits), omega arith);
+      count = omega (arith, l.is_ticks, on.starts, on.counted, leg_ends_by s a l.start l.fits);
+    }
 
 -- the strokes by the table are those by the places
 ends_are : {s : List ℕ} (list : List ℤ) {places : List (List ℤ)} {i from n h : ℕ} (t : ℕ) → OnLegOf s i from n → h ≡ leg s i → Table places h (places_on s list i)
