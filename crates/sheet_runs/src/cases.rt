@@ -1,78 +1,75 @@
 // One case each: a plain sheet, something of it changed, and its line.
-ghost use Rattle.std.specs.Prelude.{◌+◌, ◌≤◌};
-
-use crate::build::{leg_count, plain, put};
-use crate::tell::{print_number, tell};
+use crate::build::{front_length, length, plain, put};
+use crate::tell::tell;
+use ends::EndKind;
+use std::alloc::{AllocError, Allocator};
 use std::io;
 
-// The sheet of the kind and N with so many bytes changed.
-pub fn changed(
-    rt: &impl Print,
+// The sheet of the kind and N with these bytes from `at` on.
+pub fn changed<R: Print + Alloc>(
+    rt: &R,
     name: &str,
-    kind: u8,
-    n: usize,
+    kind: EndKind,
+    n: u16,
     at: usize,
-    width: usize,
-    x: u64,
-) -> io::Result<()>
-    requires { n ≤ 600 }
-{
-    let mut bytes = [0u8; 8192];
-    let length = plain(&mut bytes, kind, n);
-    put(&mut bytes, at, width, x);
-    tell(rt, name, &bytes, length)
+    bytes: &[u8],
+) -> io::Result<()> {
+    let mut sheet = plain(rt.alloc(), kind, n)?;
+    put(&mut sheet, at, bytes);
+    tell(rt, name, &sheet)
 }
 
 // Nothing changed.
-pub fn whole(rt: &impl Print, name: &str, kind: u8, n: usize) -> io::Result<()>
-    requires { n ≤ 600 }
-{
-    changed(rt, name, kind, n, 0, 0, 0)
+pub fn whole<R: Print + Alloc>(rt: &R, name: &str, kind: EndKind, n: u16) -> io::Result<()> {
+    changed(rt, name, kind, n, 0, &[])
 }
 
-// Makes one of the numbers 1 to 8 apply to a sheet of three waypoints (7: by the first one's up; 8: if it is held), and answers its length, which 5
-// changes.
-fn fault(bytes: &mut [u8; 8192], kind: u8, number: usize, length: usize) -> usize
-    requires { length ≤ 9000 }
-    ensures { result ≤ length + 1 }
-{
-    match number {
-        1 => put(bytes, 0, 4, 9999),
-        2 => put(bytes, 4, 1, 2),
-        3 => put(bytes, 5, 1, 3),
-        4 => put(bytes, 6, 2, 513),
-        5 => put(bytes, 0, 4, length as u64 + 1),
-        6 => put(bytes, 8, 2, 257),
-        7 => put(bytes, 16 + 2 * leg_count(kind, 3), 4, 120001),
-        _ => put(bytes, 68, 4, 5001),
+// Makes one of the numbers 1 to 8 apply to a sheet of three waypoints (7: by the first one's up; 8: if it is held). 5 makes it longer.
+fn fault<A: Allocator + Drop>(
+    sheet: &mut Vec<u8, A>,
+    kind: EndKind,
+    number: u64,
+) -> Result<(), AllocError> {
+    if number == 5 {
+        sheet.push(0)?;
     }
-    if number == 5 { length + 1 } else { length }
+    let bytes = sheet.as_mut_slice();
+    match number {
+        1 => put(bytes, 0, &9999u32.to_be_bytes()),
+        2 => put(bytes, 4, &[2]),
+        3 => put(bytes, 5, &[3]),
+        4 => put(bytes, 6, &513u16.to_be_bytes()),
+        5 => put(bytes, 0, &(length(kind, 3) + 1).to_be_bytes()),
+        6 => put(bytes, 8, &257u16.to_be_bytes()),
+        7 => put(bytes, front_length(kind, 3) + 8, &120001i32.to_be_bytes()),
+        _ => put(bytes, 68, &5001i32.to_be_bytes()),
+    }
+    Ok(())
 }
 
 // Two faults at once, or one where both are the same.
-fn two_faults(rt: &impl Print, name: &str, kind: u8, low: usize, high: usize) -> io::Result<()> {
-    let mut bytes = [0u8; 8192];
-    let mut length = plain(&mut bytes, kind, 3);
-    length = fault(&mut bytes, kind, high, length);
+fn two_faults<R: Print + Alloc>(
+    rt: &R,
+    name: &str,
+    kind: EndKind,
+    low: u64,
+    high: u64,
+) -> io::Result<()> {
+    let mut sheet = plain(rt.alloc(), kind, 3)?;
+    fault(&mut sheet, kind, high)?;
     if low < high {
-        length = fault(&mut bytes, kind, low, length);
+        fault(&mut sheet, kind, low)?;
     }
-    print!(rt; "{name}")?;
-    print_number(rt, low as u64)?;
-    print_number(rt, high as u64)?;
-    tell(rt, "", &bytes, length)
+    print!(rt; "{name} {low} {high}")?;
+    tell(rt, "", &sheet)
 }
 
 // Each of the numbers 1 to 8 with itself and each higher one.
-pub fn faults(rt: &impl Print, name: &str, kind: u8) -> io::Result<()> {
-    let mut k = 0;
-    while k < 64 {
-        let low = k / 8 + 1;
-        let high = k % 8 + 1;
-        if low <= high {
+pub fn faults<R: Print + Alloc>(rt: &R, name: &str, kind: EndKind) -> io::Result<()> {
+    for low in 1..=8 {
+        for high in low..=8 {
             two_faults(rt, name, kind, low, high)?;
         }
-        k = k + 1;
     }
     Ok(())
 }

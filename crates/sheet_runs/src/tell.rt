@@ -1,48 +1,13 @@
 // Lines of output, for the cases.
-use ends::EndKind;
-use sheet::Reading;
 use std::io;
 
-fn kind_number(kind: EndKind) -> u64 {
-    match kind {
-        EndKind::Free => 0,
-        EndKind::Held => 1,
-        EndKind::Closed => 2,
-    }
-}
-
-pub fn print_number(rt: &impl Print, x: u64) -> io::Result<()> {
-    print!(rt; " {x}")
-}
-
-// A2 and A9: number 0 with kind, N and P; or a refusal's number alone.
-fn print_answer(rt: &impl Print, answer: Reading) -> io::Result<()> {
-    match answer {
-        Reading::Refused(refusal) => print_number(rt, sheet::number_of(refusal))?,
-        Reading::Course {
-            kind,
-            points,
-            ticks,
-        } => {
-            print_number(rt, 0)?;
-            print_number(rt, kind_number(kind))?;
-            print_number(rt, points as u64)?;
-            print_number(rt, ticks)?;
+// The line of a case, by A2 and A9: its name, then number 0 with kind, N and P, or a refusal's number alone.
+pub fn tell(rt: &impl Print, name: &str, bytes: &[u8]) -> io::Result<()> {
+    match sheet::read(bytes) {
+        Ok(course) => {
+            let (points, ticks) = (course.points, course.ticks);
+            println!(rt; "{name}: 0 {} {points} {ticks}", u64::from(course.kind))
         }
+        Err(refusal) => println!(rt; "{name}: {}", u64::from(refusal)),
     }
-    println!(rt)
-}
-
-// Reads the first bytes as a sheet.
-fn read_first(rt: &impl Print, bytes: &[u8], length: usize) -> io::Result<()> {
-    if length <= bytes.len() {
-        print_answer(rt, sheet::read(&bytes[..length]))?;
-    }
-    Ok(())
-}
-
-// The line of a case.
-pub fn tell(rt: &impl Print, name: &str, bytes: &[u8; 8192], length: usize) -> io::Result<()> {
-    print!(rt; "{name}:")?;
-    read_first(rt, bytes, length)
 }
