@@ -2,6 +2,7 @@
 pub mod Worked
 pub mod Off
 pub mod Tests
+pub mod Ranges
 pub mod Chains
 pub mod Ends
 pub mod Stretches

@@ -1,10 +1,9 @@
 -- How far a place is from the stroke, as the code makes it (src/test.rt): every number on the way fits 64 bits, and the size is compared with the limit.
 use mathlib.Core.Path.{◌≡◌, refl, ap, ◌∙◌}
-use Prim.Native.Nat.{ℕ, ◌*◌, ◌^◌, ◌≤◌}
-use native.Mathlib.Nat.{mul-le-mul}
+use Prim.Native.Nat.{ℕ, ◌*◌, ◌^◌}
 use native.Mathlib.Omega.{arith}
 use lib.IntN.{ℤ, pos, nat_abs, ◌+ℤ◌, ◌-ℤ◌, ◌*ℤ◌}
-use lib.Signed.{lt_z}
+use lib.Dec.{ltb}
 use Rattle.integers.proofs.Made.{Made, given, times, plus, minus, read, read_back}
 use Rattle.integers.proofs.Ring.{solve, ◌≋◌, ◌⊕◌, ◌⊖◌, ◌⊗◌}
 use Rattle.stretch.specs.Asked.{OnStroke}
@@ -20,12 +19,6 @@ abbrev sub : ℤ → ℤ → ℤ
 sub a b = read a -ℤ read b
 
 module _ {t m u : ℕ} {x y z : ℤ} (o : OnStroke t m u x y z) where
-  pub limit_size : t * m ≤ 256_000
-  limit_size = mul-le-mul o.fine o.few
-
-  pub limit : Made (pos (t * m)) (pos (t * m)) 256_000
-  limit = given refl limit_size tt
-
   first : Made x x (2 ^ 47)
   first = given refl o.first tt
 
@@ -69,7 +62,5 @@ module _ {t m u : ℕ} {x y z : ℤ} (o : OnStroke t m u x y z) where
       given (n.same ∙ e) (rw (← e) (omega (arith, n.size))) tt
 
   -- r is the size of the number made
-  pub off_is : {r : ℤ} → r ≡ pos (nat_abs (read made)) → lt_z (read (pos (t * m))) (read r) ≡ off t m u x y z
-  off_is {r} e =
-      let sized : Made r (pos (nat_abs (pos m *ℤ (y -ℤ x) -ℤ pos u *ℤ (z -ℤ x)))) (2 ^ 58) = given (e ∙ ap (λ z. pos (nat_abs z)) (read_back distance)) distance.size tt in
-      (λ i. lt_z (read_back limit i) (read_back sized i))
+  pub off_is : {r : ℕ} → r ≡ nat_abs (read made) → ltb (t * m) r ≡ off t m u x y z
+  off_is e = ap (ltb (t * m)) (e ∙ ap nat_abs (read_back distance))

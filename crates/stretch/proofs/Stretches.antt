@@ -1,25 +1,15 @@
--- What the recursion hands on: a stretch within a stretch, and what its ends add to the list.
+-- What the recursion knows of its parts: the shortest stretch is kept, and what the ends of two parts add to the list.
 use mathlib.Core.Path.{◌≡◌, ap, ◌∙◌}
 use mathlib.Core.Bool.{true}
 use mathlib.Core.List.{List, [], ◌∷◌, ◌++◌}
-use Prim.Native.Nat.{ℕ, suc, ◌+◌, ◌≤◌, ◌<◌}
+use Prim.Native.Nat.{ℕ, suc, ◌+◌, ◌<◌}
 use native.Mathlib.Nat.{add-zero}
 use native.Mathlib.Omega.{arith}
 use borrow.Author.Tests.{lt-ltb}
 use lib.IntN.{ℤ}
 use lib.ListN.{length, set}
 use lib.Seq.{sets}
-use Rattle.stretch.specs.Asked.{Stretch}
 use Rattle.stretch.specs.Stretches.{kept}
-
-pub stretch_within : {p : List ℤ} {t a m : ℕ} → Stretch p t a m → (b k : ℕ) → 1 ≤ k → b + k ≤ a + m → Stretch p t b k
-stretch_within s b k some h = record {
-  table = s.table;
-  fine = s.fine;
-  some = some;
-  within = omega arith;
-  small = λ axis u fits on. s.small axis u fits (omega arith);
-}
 
 -- H2: one tick is kept
 pub short_kept : (t : ℕ) (x : ℕ → ℕ → ℤ) (a m : ℕ) → m < 2 → kept t x a m ≡ true

@@ -1,18 +1,14 @@
 -- The test of a stretch: the places at its two ends are on the stroke, so that only those between need be tested.
-use mathlib.Core.Path.{◌≡◌, refl, sym, ap, ◌∙◌}
+use mathlib.Core.Path.{◌≡◌, sym, ap, ◌∙◌}
 use mathlib.Core.Bool.{Bool, true, false, ◌||◌, or-true, or-false}
-use mathlib.Core.List.{List}
-use Prim.Native.Nat.{ℕ, ◌+◌, ◌-◌, ◌*◌, ◌^◌, ◌≤◌, ◌<◌}
+use Prim.Native.Nat.{ℕ, ◌+◌, ◌-◌, ◌*◌, ◌≤◌}
 use native.Mathlib.Nat.{add-zero}
 use native.Mathlib.Omega.{arith}
 use borrow.Author.Tests.{le-ltb}
 use lib.IntN.{ℤ, pos}
-use Rattle.integers.proofs.Made.{Made, given, read, read_back}
 use Rattle.integers.proofs.Ring.{solve, ◌≋◌, ◌⊖◌, ◌⊗◌, #◌}
 use Rattle.sheet.specs.Bytes.{any_below}
 use Rattle.sheet.proofs.Below.{any_append}
-use Rattle.systems.specs.Passes.{at}
-use Rattle.stretch.specs.Asked.{Stretch, tabled}
 use Rattle.stretch.specs.Stretches.{off, off_at, strays_on}
 
 module _ (t m : ℕ) (x z : ℤ) where
@@ -52,9 +48,3 @@ module _ (t : ℕ) (x : ℕ → ℤ) (a m : ℕ) where
 
     pub in_first : second ≡ false → any_below (λ k. off_at t x a m (1 + k)) (middle - 1) ≡ strays_on t x a m
     in_first e = sym (halves ∙ ap (λ (b : Bool). any_below (λ k. off_at t x a m (1 + k)) (middle - 1) || b) e ∙ or-false (any_below (λ k. off_at t x a m (1 + k)) (middle - 1)))
-
--- a place as the code reads it from the table
-pub read_place : {p : List ℤ} {t a m : ℕ} → Stretch p t a m → (axis u j : ℕ) → axis < 3 → u ≤ a + m → j ≡ 257 * axis + u → read (at p j) ≡ tabled p axis u
-read_place {p} s axis u j h k e =
-    let m : Made (tabled p axis u) (tabled p axis u) (2 ^ 47) = given refl (s.small axis u h k) tt in
-    ap (λ n. read (at p n)) e ∙ read_back m

@@ -1,10 +1,10 @@
--- What the functions inside ask for: the numbers of one test, a stretch of a leg whose places are tabled, and counts that stay small.
-use Rattle.std.specs.Prelude.{List, ℕ, ◌+◌, ◌*◌, ◌^◌, ◌≤◌, ◌<◌, ℤ, nat_abs, length}
+-- What the functions inside ask for: the numbers of one test, a table of a leg's places, and counts that stay small.
+use Rattle.std.specs.Prelude.{List, [], ℕ, ◌+◌, ◌^◌, ◌≤◌, ◌<◌, ℤ, nat_abs, get_or}
 use Rattle.systems.specs.Passes.{at}
 
--- a leg's places in a table of 771 numbers, 257 for each axis
-abbrev pub tabled : List ℤ → ℕ → ℕ → ℤ
-tabled places axis u = at places (257 * axis + u)
+-- a leg's places in a table, a list for each axis
+abbrev pub tabled : List (List ℤ) → ℕ → ℕ → ℤ
+tabled places axis u = at (get_or places axis []) u
 
 -- no place is larger; with it nothing overflows 64 bits
 abbrev pub Small : ℤ → Type 0
@@ -19,13 +19,9 @@ pub record OnStroke (tolerance m u : ℕ) (x y z : ℤ) : Type 0 where
   pub here : Small y
   pub last : Small z
 
--- m ticks from offset a on of a leg whose places are tabled
-pub record Stretch (places : List ℤ) (tolerance a m : ℕ) : Type 0 where
-  pub table : 771 ≤ length places
-  pub fine : tolerance ≤ 1_000
-  pub some : 1 ≤ m
-  pub within : a + m ≤ 256
-  pub small : (axis u : ℕ) → axis < 3 → u ≤ a + m → Small (tabled places axis u)
+-- no place of the table is larger up to offset m
+abbrev pub SmallUpTo : List (List ℤ) → ℕ → Type 0
+SmallUpTo places m = (axis u : ℕ) → axis < 3 → u ≤ m → Small (tabled places axis u)
 
 -- the tick at its end, and the count with all ends that it may add
 pub record Counted (from a m n : ℕ) : Type 0 where

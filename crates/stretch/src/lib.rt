@@ -2,9 +2,8 @@
 #![tactic(auto)]
 
 mod cuts;
+mod piece;
 mod test;
 
 pub use cuts::{cut, put_end};
-
-// The places of one axis in the table: a leg of 256 ticks has 257.
-pub const MOST_PLACES: usize = 257;
+pub use piece::{LegPlaces, MOST_PLACES, Stretch};

@@ -14,7 +14,7 @@ pub record Filled (x : List ℤ) (h : ℕ) (f : ℕ → ℤ) : Type 0 where
   pub at_offset : (u : ℕ) → u ≤ h → at x u ≡ f u
 
 -- the table holds the places f of a leg of h ticks
-pub record Table (places : List ℤ) (h : ℕ) (f : ℕ → ℕ → ℤ) : Type 0 where
+pub record Table (places : List (List ℤ)) (h : ℕ) (f : ℕ → ℕ → ℤ) : Type 0 where
   pub at_offset : (axis u : ℕ) → axis < 3 → u ≤ h → tabled places axis u ≡ f axis u
 
 -- none of 1 to 9, 21 and 12 applies, and n and l are the sheet's N and L

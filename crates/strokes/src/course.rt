@@ -5,8 +5,8 @@ ghost use Rattle.sheet.specs.Fields.{ticks as sum_of_legs};
 ghost use Rattle.strokes.specs.Strokes.{stroke_ends};
 ghost use Rattle.strokes.specs.Asked.{OnCourse};
 
-use crate::leg::{TABLE, leg_ends};
-use stretch::put_end;
+use crate::leg::leg_ends;
+use stretch::{MOST_PLACES, put_end};
 
 // H4: written as far as the list goes, and counted in any case.
 pub fn course_ends(
@@ -21,11 +21,10 @@ pub fn course_ends(
     ensures count { result ≡ length (stroke_ends s.now list.now tolerance) }
     ensures ends { ends.new ≡ sets ends.old 0 (stroke_ends s.now list.now tolerance) }
 {
-    let mut places = [0i64; TABLE];
+    let mut places = [[0i64; MOST_PLACES]; 3];
     let mut n = put_end(ends, 0, 0);
     let mut from = 0;
-    let mut i = 0;
-    while i < legs {
+    for i in 0..legs {
         let h = sheet::leg_length(s, i);
         n = leg_ends(
             s,
@@ -40,8 +39,7 @@ pub fn course_ends(
             ends,
             n,
         );
-        from = from + h as usize;
-        i = i + 1;
+        from += h as usize;
     }
     n
 }

@@ -12,24 +12,15 @@ ghost use Rattle.strokes.specs.Asked.{Filled, Table, OnCourse, OnLegOf};
 use place::numbers_on;
 use place::position::position;
 use runner::Runner;
-use stretch::cut;
-
-// Where east's and up's places begin in the table, and where it ends: 257 for each axis, as crate stretch reads them.
-const EAST: usize = 257;
-
-const UP: usize = 514;
-
-pub const TABLE: usize = 771;
+use stretch::{LegPlaces, MOST_PLACES, Stretch, cut};
 
 // The leg's positions on one axis, offset by offset.
-fn put_positions(x: &mut [i64], h: u64, v: i64, w: i64, z: i64, y: i64)
-    requires { OnLeg h 0 v w z y × (h < length x.old) }
+fn put_positions(x: &mut [i64; MOST_PLACES], h: u64, v: i64, w: i64, z: i64, y: i64)
+    requires { OnLeg h 0 v w z y }
     ensures { Filled x.new h (λ u. position h u v w z y) }
 {
-    let mut u = 0;
-    while u <= h {
+    for u in 0..=h {
         x[u as usize] = position(h, u, v, w, z, y);
-        u = u + 1;
     }
 }
 
@@ -43,12 +34,12 @@ fn put_places(
     end: usize,
     h: u64,
     axis: usize,
-    x: &mut [i64],
+    x: &mut [i64; MOST_PLACES],
 )
     requires fitting { Fitting s.now list.now points legs (runner i 0) }
     requires i_value { bend_outside s.now list.now i ≡ false }
     requires end_value { (end ≡ end_of s.now i) × (end < points) × (h ≡ leg s.now i) }
-    requires axis_bound { (axis < 3) × (length x.old ≡ 257) }
+    requires axis_bound { axis < 3 }
     ensures { Filled x.new h (places_on s.now list.now i axis) }
 {
     let at = Runner {
@@ -72,17 +63,17 @@ fn put_table(
     legs: usize,
     i: usize,
     h: u64,
-    places: &mut [i64],
+    places: &mut LegPlaces,
 )
     requires fitting { Fitting s.now list.now points legs (runner i 0) }
     requires i_value { bend_outside s.now list.now i ≡ false }
-    requires h_value { (h ≡ leg s.now i) × (length places.old ≡ 771) }
+    requires h_value { h ≡ leg s.now i }
     ensures { Table places.new h (places_on s.now list.now i) }
 {
     let end = sheet::end_of(points, i);
-    put_places(s, list, points, legs, i, end, h, 0, &mut places[0..EAST]);
-    put_places(s, list, points, legs, i, end, h, 1, &mut places[EAST..UP]);
-    put_places(s, list, points, legs, i, end, h, 2, &mut places[UP..TABLE]);
+    for axis in 0..3 {
+        put_places(s, list, points, legs, i, end, h, axis, &mut places[axis]);
+    }
 }
 
 // H3: the leg begins as one stretch. Its ends, from place n of the list on as far as the list goes, and counted in any case; `places` is overwritten.
@@ -95,15 +86,21 @@ pub fn leg_ends(
     h: u64,
     tolerance: u64,
     from: usize,
-    places: &mut [i64],
+    places: &mut LegPlaces,
     ends: &mut [u64],
     n: usize,
 ) -> usize
     requires on_course { OnCourse s.now list.now points legs tolerance × OnLegOf s.now i from n }
-    requires h_value { (h ≡ leg s.now i) × (length places.old ≡ 771) }
+    requires h_value { h ≡ leg s.now i }
     ensures count { result ≡ n + length (leg_ends s.now list.now tolerance i) }
     ensures ends { ends.new ≡ sets ends.old n (leg_ends s.now list.now tolerance i) }
 {
     put_table(s, list, points, legs, i, h, places);
-    cut(places, tolerance, from, 0, h as usize, ends, n)
+    let leg = Stretch {
+        places,
+        tolerance,
+        start: 0,
+        ticks: h as usize,
+    };
+    cut(leg, from, ends, n)
 }

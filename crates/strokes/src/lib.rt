@@ -4,7 +4,7 @@
 mod course;
 mod leg;
 
-ghost use Rattle.std.specs.Prelude.{◌≡◌, ◌+◌, length};
+ghost use Rattle.std.specs.Prelude.{◌≡◌, ◌+◌, ◌*◌, ◌<◌, ◌≤◌, length};
 ghost use Rattle.sheet.specs.Bytes.{any_below};
 ghost use Rattle.sheet.specs.Fields.{ticks as sum_of_legs};
 ghost use Rattle.strokes.specs.Strokes.{grain_outside, stroke_ends, ink_or_ends, left_by, strokes_answer, drawn_into, told_strokes};
@@ -30,19 +30,20 @@ fn grain_outside(tolerance: i64) -> bool
     (tolerance < 0) | (MOST_TOLERANCE < tolerance)
 }
 
+// N12, of the leg i.
+fn bends_at(list: &[i64], points: usize, i: usize) -> bool
+    requires { (3 * points ≤ length list.now) × (i < points) × (points ≤ 512) }
+    ensures { result ≡ bends_at list.now points i }
+{
+    place::bend_outside(list, points, i, sheet::end_of(points, i))
+}
+
 // N12, of every leg.
 fn any_bend(list: &[i64], points: usize, legs: usize) -> bool
     requires { BendsAsked list.now points legs }
     ensures { result ≡ any_below (bends_at list.now points) legs }
 {
-    let mut i = 0;
-    while i < legs {
-        if place::bend_outside(list, points, i, sheet::end_of(points, i)) {
-            return true;
-        }
-        i = i + 1;
-    }
-    false
+    (0..legs).any(|i| bends_at(list, points, i))
 }
 
 // 22, or the ends: nothing is written before it is known that all of them have room.

@@ -2,4 +2,4 @@
 use Rattle.stretch.proofs.cuts.+cut.Given as goal
 
 abbrev pub decreases-cut : goal.decreases-cut
-decreases-cut l = l.ticks
+decreases-cut l = l.stretch.ticks

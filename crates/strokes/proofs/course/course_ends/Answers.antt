@@ -12,7 +12,6 @@ use Rattle.strokes.proofs.course.course_ends.Goals as goal
 pub loop-i-init : goal.loop-i-init
 unfolding sum_below ends_below
 loop-i-init c = record {
-  within = omega arith;
   starts = refl;
   counted = c.put_end-n.ensures.count;
   stored = c.put_end-n.ensures.ends;
@@ -43,7 +42,6 @@ loop-i-preserved c =
     let l = c.loop-i in let a = c.args in let k = c.leg_ends-n in
     let x = ends_below a.s.now a.list.now a.tolerance l.i in let y = leg_ends a.s.now a.list.now a.tolerance l.i in
     let step = ends_step a.s.now a.list.now a.tolerance l.i in record {
-      within = omega arith;
       starts = (λ j. l.invariant.starts j + c.leg_length-h.ensures j) ∙ sym (sum_step (leg a.s.now) l.i);
       counted = omega (arith, k.ensures.count, l.invariant.counted, length-append x y, ap length step);
       stored = k.ensures.ends ∙ (λ j. sets (l.invariant.stored j) (l.invariant.counted j) y) ∙ sets_more x y a.ends.now ∙ ap (sets a.ends.now 0) (sym step);

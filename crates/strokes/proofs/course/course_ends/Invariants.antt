@@ -1,5 +1,5 @@
 -- `course_ends`: the ends of the legs so far are stored and counted.
-use Rattle.std.proofs.Common.{◌-◌, ◌≡◌, ◌≤◌, length}
+use Rattle.std.proofs.Common.{◌≡◌, length}
 use Rattle.std.proofs.lemmas.List.Edits.{sets}
 use Rattle.sheet.specs.Bytes.{sum_below}
 use Rattle.sheet.specs.Fields.{leg}
@@ -8,11 +8,7 @@ use Rattle.strokes.proofs.course.course_ends.Given as goal
 
 abbrev pub invariant-loop-i : goal.invariant-loop-i
 invariant-loop-i l = record {
-  within : l.i ≤ l.legs;
   starts : l.from ≡ sum_below (leg l.s) l.i;
   counted : l.n ≡ length (ends_below l.s l.list l.tolerance l.i);
   stored : l.ends ≡ sets l.fn.ends 0 (ends_below l.s l.list l.tolerance l.i);
 }
-
-abbrev pub decreases-loop-i : goal.decreases-loop-i
-decreases-loop-i l = l.legs - l.i

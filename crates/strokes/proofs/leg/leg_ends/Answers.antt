@@ -16,23 +16,24 @@ put_table-requires-clause-fitting c = let q = c.requires.on_course in fitting q.
 pub put_table-requires-clause-i_value : goal.put_table-requires-clause-i_value
 put_table-requires-clause-i_value c = let q = c.requires.on_course in within q.0 c.args.i q.1.leg_fits
 
+pub invariant_of-leg : goal.invariant_of-leg
+invariant_of-leg c =
+    let (o, on) = c.requires.on_course in let h = c.requires.h_value in let i = c.args.i in let table = c.put_table.ensures in
+    record {
+      fine = o.fine;
+      some = omega (arith, h, leg_low o i on.leg_fits);
+      within = omega (arith, h, leg_high o i on.leg_fits);
+      small = λ axis u k up. rw (table.at_offset axis u k (omega arith)) (small o i on.leg_fits axis u k (omega (arith, h)));
+    }
+
 pub cut-requires : goal.cut-requires
 cut-requires c =
-    let a = c.args in let (o, on) = c.requires.on_course in let h = c.requires.h_value.0 in let i = a.i in
-    let table = c.put_table.ensures in (
-      record {
-        table = omega arith;
-        fine = o.fine;
-        some = omega (arith, h, leg_low o i on.leg_fits);
-        within = omega (arith, h, leg_high o i on.leg_fits);
-        small = λ axis u k up. rw (table.at_offset axis u k (omega arith)) (small o i on.leg_fits axis u k (omega (arith, h)));
-      },
-      let e = leg_ends_by a.s.now o.accepted i on.leg_fits in
-          record { tick = omega (arith, h, on.starts); count = omega (arith, h, on.starts, on.counted) },
-    )
+    let (o, on) = c.requires.on_course in let h = c.requires.h_value in
+    let e = leg_ends_by c.args.s.now o.accepted c.args.i on.leg_fits in
+    record { tick = omega (arith, h, on.starts); count = omega (arith, h, on.starts, on.counted) }
 
 -- the strokes by the table are those by the places
-ends_are : {s : List ℕ} (list : List ℤ) {places : List ℤ} {i from n h : ℕ} (t : ℕ) → OnLegOf s i from n → h ≡ leg s i → Table places h (places_on s list i)
+ends_are : {s : List ℕ} (list : List ℤ) {places : List (List ℤ)} {i from n h : ℕ} (t : ℕ) → OnLegOf s i from n → h ≡ leg s i → Table places h (places_on s list i)
     → ends_of t (tabled places) from 0 h ≡ leg_ends s list t i
 ends_are {s} list {places} {i} {from} {n} {h} t on e table =
     let x = places_on s list i in
@@ -41,9 +42,9 @@ ends_are {s} list {places} {i} {from} {n} {h} t on e table =
 pub returns-clause-count : goal.returns-clause-count
 returns-clause-count c =
     let a = c.args in
-    c.cut.ensures.count ∙ ap (λ l. a.n + length l) (ends_are a.list.now a.tolerance c.requires.on_course.1 c.requires.h_value.0 c.put_table.ensures)
+    c.cut.ensures.count ∙ ap (λ l. a.n + length l) (ends_are a.list.now a.tolerance c.requires.on_course.1 c.requires.h_value c.put_table.ensures)
 
 pub returns-clause-ends : goal.returns-clause-ends
 returns-clause-ends c =
     let a = c.args in
-    c.cut.ensures.ends ∙ ap (sets a.ends.now a.n) (ends_are a.list.now a.tolerance c.requires.on_course.1 c.requires.h_value.0 c.put_table.ensures)
+    c.cut.ensures.ends ∙ ap (sets a.ends.now a.n) (ends_are a.list.now a.tolerance c.requires.on_course.1 c.requires.h_value c.put_table.ensures)
