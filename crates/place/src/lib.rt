@@ -35,9 +35,10 @@ pub fn place_at(laid: &Laid<'_>, at: Runner) -> Result<Place, Refusal>
     let north = leg.place_on(at.offset, 0);
     let east = leg.place_on(at.offset, 1);
     let up = leg.place_on(at.offset, 2);
-    Ok(Place {
+    let place = Place {
         at: [north, east, up],
-    })
+    };
+    Ok(place)
 }
 
 // A4, on sheets with up to `limit` waypoints: tests 1 to 10 and 12.
@@ -58,7 +59,12 @@ pub fn place_at_tick_by(limit: usize, s: &[u8], list: &[i64], tick: u64) -> Resu
 }
 
 // A5, on sheets with up to `limit` waypoints: tests 1 to 9, 11 and 12.
-pub fn place_of_runner_by(limit: usize, s: &[u8], list: &[i64], at: Runner) -> Result<Place, Refusal>
+pub fn place_of_runner_by(
+    limit: usize,
+    s: &[u8],
+    list: &[i64],
+    at: Runner,
+) -> Result<Place, Refusal>
     ensures { told_placed result ≡ place_of_runner_by limit s.now list.now at }
 {
     let reading = answers::open(limit, s);

@@ -1,5 +1,5 @@
 -- `leg`: its end is the definition's.
-use Rattle.std.proofs.Common.{◌∙◌, rules, arith}
+use Rattle.std.proofs.Common.{◌∙◌, arith}
 use Rattle.place.proofs.Fitting.{end_is, leg_room}
 use Rattle.place.proofs.laid.Laid.leg.Goals as goal
 

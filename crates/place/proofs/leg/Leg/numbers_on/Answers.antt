@@ -1,5 +1,5 @@
 -- `numbers_on`: the four numbers are those of the definitions, and within limits.
-use Rattle.std.proofs.Common.{◌≡◌, ◌≤◌, ◌^◌, ◌<◌, ◌≤◌, ℕ, ℤ, List, nat_abs, ltb, sym}
+use Rattle.std.proofs.Common.{◌≡◌, ◌≤◌, ◌^◌, ◌≤◌, ℕ, ℤ, nat_abs, ltb, sym}
 use mathlib.Core.Path.{subst₂}
 use lib.Dec.{T}
 use Rattle.integers.proofs.Made.{read, given, small}
@@ -38,7 +38,9 @@ invariant_of-result c =
     let f = at_end l axis (numbers_fit s l.laid.sheet.accepted list l.start l.fits l.inside axis c.requires (rw (← l.is_end) l.end_fits)) in
     record {
       within = record {
-        leg_low = f.leg_low; leg_high = f.leg_high; offset = f.offset;
+        leg_low = f.leg_low;
+        leg_high = f.leg_high;
+        offset = f.offset;
         start = size c.waypoint_on-v.ensures f.start tt;
         end = size c.waypoint_on-w.ensures f.end tt;
         start_bend = size c.bend_of-z.ensures f.start_bend tt;

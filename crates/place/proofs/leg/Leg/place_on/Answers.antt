@@ -1,6 +1,6 @@
 -- `place_on`: the numbers are those of the definition.
 use Rattle.std.proofs.Common.{◌∙◌}
-use Rattle.integers.proofs.Made.{read_back, given, passed}
+use Rattle.integers.proofs.Made.{passed}
 use Rattle.spline.specs.Position.{position}
 use Rattle.sheet.specs.Fields.{waypoint}
 use Rattle.place.specs.Places.{bend_of, place_on}

@@ -1,9 +1,8 @@
 -- `position`: all numbers fit, so that the quotient rounded is P1's.
-use Rattle.std.proofs.Common.{◌∙◌, ℕ, ◌≤◌, nat_abs}
+use Rattle.std.proofs.Common.{◌∙◌, nat_abs}
 use Rattle.rounding.specs.Rounded.{rounded}
 use Rattle.spline.specs.Position.{position}
 use Rattle.integers.proofs.Made.{fits, read_back, passed, times, minus}
-use Rattle.place.specs.Asked.{OnLeg}
 use Rattle.place.proofs.Numerator.{along, scale, whole, ends, bends, bend, numerator_is}
 use Rattle.place.proofs.numbers.LegNumbers.position.Goals as goal
 
