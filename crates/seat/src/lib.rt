@@ -40,12 +40,7 @@ fn next_turn(seats: usize, turn: u64) -> u64
 }
 
 // A14, before any seat: tests 1 to 9, 19 and 20.
-fn admitted<'a>(
-    s: &'a [u8],
-    list: &'a [i64],
-    seats: usize,
-    turn: u64,
-) -> Result<Laid<'a>, Refusal>
+fn admitted<'a>(s: &'a [u8], list: &'a [i64], seats: usize, turn: u64) -> Result<Laid<'a>, Refusal>
     ensures { Admits s.now list.now seats turn result }
 {
     let reading = answers::open(MOST_POINTS, s);

@@ -42,7 +42,7 @@ returns c =
       l.1,
       omega arith,
       λ rest.
-        passed (turn_outside a.seats a.turn) Turn rest (lt-leb _ _ c.if-seats-turn.false)
-        ∙ passed (seats_outside a.seats) Seats _ c.if-seats.false
-        ∙ let_on most_points a.s.now a.list.now c.in-Ok.sheet c.in-Ok.ensures c.in_ok-laid.laid l _,
+          passed (turn_outside a.seats a.turn) Turn rest (lt-leb _ _ c.if-seats-turn.false)
+          ∙ passed (seats_outside a.seats) Seats _ c.if-seats.false
+          ∙ let_on most_points a.s.now a.list.now c.in-Ok.sheet c.in-Ok.ensures c.in_ok-laid.laid l _,
     )

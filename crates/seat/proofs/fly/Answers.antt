@@ -1,5 +1,5 @@
 -- `fly`: 11 is asked, then 13; a runner that is moved on still fits the sheet, so that its place can be asked for, which says 12 or where it is.
-use Rattle.std.proofs.Common.{◌≡◌, ◌∙◌, true, false, cond, nat_eq, refl, List, ℤ, ℕ, Result, Ok, Err, rules, sym, ap, arith}
+use Rattle.std.proofs.Common.{◌≡◌, ◌∙◌, true, false, cond, nat_eq, refl, List, ℤ, ℕ, Result, Ok, Err, rules, sym, ap}
 use Rattle.integers.proofs.Tried.{Tried, tried}
 use Rattle.sheet.specs.Answers.{Told, refused}
 use Rattle.sheet.specs.declared.Refusal.{Refusal}
@@ -57,7 +57,7 @@ returns-then-is_landed-clause-at c =
 
 -- tried: from the first waypoint to offset 1, and the place is asked of the latter
 place_tried : (c : goal.After-moved-moved) → let s = c.args.laid.now.sheet.bytes.now in c.args.at.now ≡ runner 0 0 → c.moved-moved.result ≡ runner 0 1 → adrift s (runner 0 1) ≡ false → Tried
-place_tried c r m h = tried (λ (need : goal.place_at-requires). need c) (simp (r, m) h)
+place_tried c r m h = tried (λ (need : goal.place_at-requires). need c) (simp m h)
 
 pub place_at-requires : goal.place_at-requires
 place_at-requires c =
@@ -75,7 +75,7 @@ returns-in_err-place-clause-told c =
 
 -- tried: at a bad bend number on leg 1 a seat at the last tick of leg 0 stays there
 bend_tried : (c : goal.After-from_residual) → let s = c.args.laid.now.sheet.bytes.now in c.args.at.now ≡ runner 0 1 → c.moved-moved.result ≡ runner 1 0 → flown s c.args.laid.now.list.now (runner 0 1) ≡ refused Bend → Tried
-bend_tried c r m f = tried (λ (need : goal.returns-in_err-place-clause-at). need c) (simp (r, m, f) refl)
+bend_tried c r m f = tried (λ (need : goal.returns-in_err-place-clause-at). need c) (simp (r, f) refl)
 
 pub returns-in_err-place-clause-at : goal.returns-in_err-place-clause-at
 returns-in_err-place-clause-at c =
