@@ -5,7 +5,6 @@ mod RowMade
 mod Rows
 mod Passes
 mod Sweep
-mod Fill
 pub mod Parts
 pub mod Outcomes
 pub mod Near

@@ -5,15 +5,14 @@ use mathlib.Core.List.{List, [], ◌∷◌, ◌++◌}
 use Prim.Native.Nat.{ℕ, ◌*◌, ◌≤◌, ◌<◌}
 use borrow.Author.Tests.{lt-ltb, le-ltb}
 use lib.IntN.{ℤ, pos}
+use Rattle.std.specs.Prelude.{Err}
 use lib.ListN.{length, drop, replicate}
-use Rattle.sheet.specs.Answers.{Told, refused}
+use Rattle.sheet.specs.Answers.{Told, Reading, refused}
 use Rattle.sheet.specs.Fields.{points}
 use Rattle.sheet.specs.Bytes.{be16, be32, signed32, any_below, sum_below}
 use Rattle.sheet.specs.Reading.{read_by, Accepted}
 use Rattle.sheet.specs.declared.Refusal.{Refusal}
 use Rattle.sheet.specs.declared.Refusal.TheVariants.{Shelf}
-use Rattle.sheet.specs.declared.Reading.{Reading}
-use Rattle.sheet.specs.declared.Reading.TheVariants.{Refused}
 use Rattle.answers.specs.Answers.{done, pass_on, guard}
 use Rattle.answers.proofs.Guards.{within_on, done_changes, refused_keeps}
 use Rattle.systems.specs.Passes.{turn, sweep, pass, passes}
@@ -27,7 +26,7 @@ unfolding turn sweep pass passes be16 be32 signed32 any_below sum_below read_by 
 rest_tried = refl
 
 module _ (limit : ℕ) (s : List ℕ) (room : ℕ) where
-  pub refused_answer : (r : Refusal) → read_by limit s ≡ Refused r → lay_out_by limit s room ≡ refused r
+  pub refused_answer : (r : Refusal) → read_by limit s ≡ Err r → lay_out_by limit s room ≡ refused r
   unfolding lay_out_by
   refused_answer r e = ap (λ (x : Reading). pass_on x (guard (short s room) Shelf done)) e
 

@@ -21,7 +21,8 @@ use Rattle.systems.proofs.Lists.{sweep_next, length_sweep}
 use Rattle.spline.specs.Spline.{Course, next, prev, row_of, rows_by, rows}
 use Rattle.spline.proofs.Bends.{bends_bounded}
 use Rattle.layout.specs.Course.{course}
-use Rattle.layout.specs.Inside.{OnSheet, Inner, Reached, Small, AllSmall, code_row}
+use Rattle.layout.specs.Inside.{along, Inner, Reached, Small, AllSmall, code_row}
+use Rattle.layout.specs.declared.axis.Axis.{Axis}
 use Rattle.layout.specs.declared.row.Row as code
 use Rattle.integers.proofs.Made.{read}
 use Rattle.layout.proofs.Given.{in_bounds}
@@ -50,38 +51,38 @@ between Held n i a b = (a, b)
 between Closed n i a b = omega arith
 
 -- before the turn at i, of a pass over z₀: it has made z of z₀, and where `changed` is false z is still z₀
-pub record Through (s : List ℕ) (axis : ℕ) (z₀ z : List ℤ) (changed : Bool) (i : ℕ) : Type 0 where
-  pub swept : z ≡ sweep (rows (course s axis)) 65536 i z₀
+pub record Through (x : Axis) (z₀ z : List ℤ) (changed : Bool) (i : ℕ) : Type 0 where
+  pub swept : z ≡ sweep (rows (along x)) 65536 i z₀
   pub same : changed ≡ false → z ≡ z₀
 
-module _ {s : List ℕ} {axis : ℕ} where
-  pub through_start : (z₀ : List ℤ) → Through s axis z₀ z₀ false 0
+module _ {x : Axis} where
+  pub through_start : (z₀ : List ℤ) → Through x z₀ z₀ false 0
   unfolding sweep
   through_start z₀ = record { swept = refl; same = λ e. refl }
 
-  pub through_turn : {z₀ z : List ℤ} {changed : Bool} {i : ℕ} → Through s axis z₀ z changed i
-      → (z' : List ℤ) → z' ≡ turn (rows (course s axis)) 65536 z i
-      → (now : Bool) → (now ≡ false → (changed ≡ false) × (z' ≡ z)) → Through s axis z₀ z' now (i + 1)
+  pub through_turn : {z₀ z : List ℤ} {changed : Bool} {i : ℕ} → Through x z₀ z changed i
+      → (z' : List ℤ) → z' ≡ turn (rows (along x)) 65536 z i
+      → (now : Bool) → (now ≡ false → (changed ≡ false) × (z' ≡ z)) → Through x z₀ z' now (i + 1)
   through_turn {z₀} {i = i} t z' e now f =
-      let R = rows (course s axis) in record {
+      let R = rows (along x) in record {
         swept = e ∙ ap (λ (l : List ℤ). turn R 65536 l i) t.swept ∙ sym (ap (λ (m : ℕ). sweep R 65536 m z₀) (add-one i) ∙ sweep_next R 65536 i z₀);
         same = λ g. (f g).1 ∙ t.same (f g).0;
       }
 
-module _ {s : List ℕ} {k : EndKind} {n axis : ℕ} (o : OnSheet s k n axis) where
+module _ (x : Axis) where
   abbrev c : Course
-  c = course s axis
+  c = along x
 
   abbrev R : Rows
   R = rows c
 
-  row_is : (i : ℕ) → R.row i ≡ row_of 2 1 k c i
+  row_is : (i : ℕ) → R.row i ≡ row_of 2 1 x.sheet.kind c i
   unfolding rows_by
-  row_is i = sym (told_kind o i)
+  row_is i = sym (told_kind x i)
 
   -- what a turn works out is the definition's number
   pub turn_renews : (zs : List ℤ) (i : ℕ) (r : code.Row) (left right : ℤ)
-      → r ≡ code_row (row_of 2 1 k c i) → left ≡ at zs (prev c i) → right ≡ at zs (next c i)
+      → r ≡ code_row (row_of 2 1 x.sheet.kind c i) → left ≡ at zs (prev c i) → right ≡ at zs (next c i)
       → rounded (pos 65536 *ℤ r.right -ℤ r.before *ℤ left -ℤ r.after *ℤ right) (nat_abs r.middle) ≡ renewed R 65536 zs i
   unfolding target renewed rows_by
   turn_renews zs i r left right e l q =
@@ -89,24 +90,24 @@ module _ {s : List ℕ} {k : EndKind} {n axis : ℕ} (o : OnSheet s k n axis) wh
       λ j. rounded (pos 65536 *ℤ (f j).right -ℤ (f j).before *ℤ l j -ℤ (f j).after *ℤ q j) (nat_abs (f j).middle)
 
   -- the turn where there is a row, and where there is none
-  pub turn_present : (zs : List ℤ) (i : ℕ) → (row_of 2 1 k c i).present ≡ true → turn R 65536 zs i ≡ set zs i (renewed R 65536 zs i)
+  pub turn_present : (zs : List ℤ) (i : ℕ) → (row_of 2 1 x.sheet.kind c i).present ≡ true → turn R 65536 zs i ≡ set zs i (renewed R 65536 zs i)
   turn_present zs i e = systems.turn_present R 65536 zs i (ap (λ (r : Row). r.present) (row_is i) ∙ e)
 
-  pub turn_absent : (zs : List ℤ) (i : ℕ) → (row_of 2 1 k c i).present ≡ false → turn R 65536 zs i ≡ zs
+  pub turn_absent : (zs : List ℤ) (i : ℕ) → (row_of 2 1 x.sheet.kind c i).present ≡ false → turn R 65536 zs i ≡ zs
   turn_absent zs i e = systems.turn_absent R 65536 zs i (ap (λ (r : Row). r.present) (row_is i) ∙ e)
 
-  pub through_end : {z₀ z : List ℤ} {changed : Bool} {i : ℕ} → Through s axis z₀ z changed i → i ≡ n → (z ≡ pass R 65536 z₀) × (changed ≡ false → z ≡ z₀)
+  pub through_end : {z₀ z : List ℤ} {changed : Bool} {i : ℕ} → Through x z₀ z changed i → i ≡ x.sheet.points → (z ≡ pass R 65536 z₀) × (changed ≡ false → z ≡ z₀)
   unfolding pass rows_by course
-  through_end {z₀} t e = (t.swept ∙ ap (λ (j : ℕ). sweep R 65536 j z₀) (e ∙ o.same_points), t.same)
+  through_end {z₀} t e = (t.swept ∙ ap (λ (j : ℕ). sweep R 65536 j z₀) (e ∙ x.sheet.is_points), t.same)
 
-  pub start_length : (z₀ : List ℤ) → Reached s axis z₀ → length z₀ ≡ n
-  start_length z₀ reached = ap length reached.numbers ∙ passes_length s axis reached.count ∙ sym o.same_points
+  pub start_length : (z₀ : List ℤ) → Reached x z₀ → length z₀ ≡ x.sheet.points
+  start_length z₀ reached = ap length reached.numbers ∙ passes_length x.sheet.bytes.now x.axis reached.count ∙ sym x.sheet.is_points
 
-  pub through_small : {z₀ z : List ℤ} {changed : Bool} {i : ℕ} → Reached s axis z₀ → Through s axis z₀ z changed i → i ≤ n → AllSmall n z
+  pub through_small : {z₀ z : List ℤ} {changed : Bool} {i : ℕ} → Reached x z₀ → Through x z₀ z changed i → i ≤ x.sheet.points → AllSmall x.sheet.points z
   unfolding course
   through_small {z₀} {i = i} reached t h = record {
     size = ap length t.swept ∙ length_sweep R 65536 i z₀ ∙ start_length z₀ reached;
     small = λ j l.
         rw (t.swept, reached.numbers)
-        (bends_bounded c (in_bounds o) reached.count i j (omega (arith, o.same_points)) (omega (arith, o.same_points)));
+        (bends_bounded c (in_bounds x) reached.count i j (omega (arith, x.sheet.is_points)) (omega (arith, x.sheet.is_points)));
   }

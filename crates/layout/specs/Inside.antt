@@ -1,23 +1,18 @@
 -- What the functions inside laying out ask and promise of each other. The promise of `lay_out` names none of these words.
-use Rattle.std.specs.Prelude.{◌≡◌, true, false, List, ℕ, ◌+◌, ◌≤◌, ◌<◌, ℤ, pos, nat_abs, length, replicate, ◌≤ℤ◌}
+use Rattle.std.specs.Prelude.{◌≡◌, true, false, List, ℕ, ◌+◌, ◌≤◌, ◌<◌, ℤ, pos, nat_abs, length, replicate, ◌≤ℤ◌, Option, None, Some}
 use Rattle.ends.specs.declared.EndKind.{EndKind}
 use Rattle.ends.specs.declared.EndKind.TheVariants.{Free, Held, Closed}
-use Rattle.sheet.specs.Fields.{kind, points}
-use Rattle.sheet.specs.Theorems.{Bounds}
+use Rattle.sheet.specs.Fields.{points}
 use Rattle.systems.specs.Rows as systems
 use Rattle.systems.specs.Passes.{at, passes}
-use Rattle.spline.specs.Spline.{rows}
+use Rattle.spline.specs.Spline.{Course, rows}
 use Rattle.layout.specs.Course.{course}
+use Rattle.layout.specs.declared.axis.Axis.{Axis}
 use Rattle.layout.specs.declared.row.Row.{Row}
-use Rattle.layout.specs.declared.row.EndRow.{EndRow}
-use Rattle.layout.specs.declared.row.EndRow.TheVariants.{Absent, Present}
 
--- the sheet has the bounds of an accepted one, its kind is k and its N is n; and the axis is one of three
-pub record OnSheet (s : List ℕ) (k : EndKind) (n axis : ℕ) : Type 0 where
-  pub bounds : Bounds s
-  pub same_kind : k ≡ kind s
-  pub same_points : n ≡ points s
-  pub axis_fits : axis < 3
+-- the course on the axis that the code is at
+abbrev pub along : Axis → Course
+along x = course x.sheet.bytes.now x.axis
 
 -- of n waypoints i is the first, or else the last
 abbrev pub AtEnd : ℕ → ℕ → Type 0
@@ -47,9 +42,9 @@ pub record Sized (r : Row) : Type 0 where
   pub right : nat_abs r.right ≤ 1_024_000_000
 
 -- the code's answer for an end: no row, or the code's row of one that is present
-abbrev pub RowOfEnd : EndRow → systems.Row → Type 0
-RowOfEnd Absent r = r.present ≡ false
-RowOfEnd (Present w) r = (r.present ≡ true) × (w ≡ code_row r) × Sized w
+abbrev pub RowOfEnd : Option Row → systems.Row → Type 0
+RowOfEnd None r = r.present ≡ false
+RowOfEnd (Some w) r = (r.present ≡ true) × (w ≡ code_row r) × Sized w
 
 -- the bound on every bend number in every pass: 65,536 × 2,005,000
 abbrev pub Small : ℤ → Type 0
@@ -65,6 +60,6 @@ abbrev pub after_passes : List ℕ → ℕ → ℕ → List ℤ
 after_passes s axis m = passes (rows (course s axis)) 65536 m (replicate (points s) (pos 0))
 
 -- the numbers of some count of passes
-pub record Reached (s : List ℕ) (axis : ℕ) (z : List ℤ) : Type 0 where
+pub record Reached (x : Axis) (z : List ℤ) : Type 0 where
   pub count : ℕ
-  pub numbers : z ≡ after_passes s axis count
+  pub numbers : z ≡ after_passes x.sheet.bytes.now x.axis count

@@ -1,14 +1,15 @@
 // Passes over one axis (L1 to L4), in place in its part of the lent list.
-ghost use Rattle.std.specs.Prelude.{◌≡◌, false, pos, nat_abs, ◌-ℤ◌, ◌*ℤ◌, length, replicate};
+ghost use Rattle.std.specs.Prelude.{◌≡◌, false, pos, nat_abs, ◌-ℤ◌, ◌*ℤ◌, length};
 ghost use Rattle.rounding.specs.Rounded.{rounded};
 ghost use Rattle.systems.specs.Passes as systems;
 ghost use Rattle.spline.specs.Spline.{rows, bends};
-ghost use Rattle.layout.specs.Course.{course};
-ghost use Rattle.layout.specs.Inside.{OnSheet, AtEnd, Sized, Small, AllSmall, Reached};
+ghost use Rattle.layout.specs.Inside.{along, AtEnd, Sized, Small, AllSmall, Reached};
 
-use crate::row;
-use crate::row::{EndRow, Row};
-use ends::EndKind;
+use crate::axis::Axis;
+use crate::row::Row;
+
+// L3: how many passes.
+const PASSES: usize = 40;
 
 // L2: the new number of a row, from its neighbours' present ones.
 fn renewed(row: Row, left: i64, next: i64) -> i64
@@ -21,70 +22,56 @@ fn renewed(row: Row, left: i64, next: i64) -> i64
     )
 }
 
-// The turn at the first or the last waypoint; where the ends are free there is none. Answers whether its number changed.
-fn turn(s: &[u8], kind: EndKind, n: usize, axis: usize, i: usize, z: &mut [i64]) -> bool
-    requires { OnSheet s.now kind n axis × AtEnd n i × AllSmall n z.old }
-    ensures number { z.new ≡ systems.turn (rows (course s.now axis)) 65536 z.old i }
-    ensures settled { result ≡ false → z.new ≡ z.old }
-{
-    let end = row::end_row(s, kind, n, axis, i);
-    let EndRow::Present(row) = end else {
-        return false;
-    };
-    let old = z[i];
-    let left = z[row::before(i, n)];
-    let x = renewed(row, left, z[sheet::end_of(n, i)]);
-    z[i] = x;
-    x != old
-}
-
-// L2: the turns from the first waypoint to the last. Answers whether a number changed. The number just set is the next row's left neighbour; where it is
-// the old one, the old one is taken, so that the next division need not wait for it.
-fn pass(s: &[u8], kind: EndKind, n: usize, axis: usize, z: &mut [i64]) -> bool
-    requires { OnSheet s.now kind n axis × Reached s.now axis z.old }
-    ensures numbers { z.new ≡ systems.pass (rows (course s.now axis)) 65536 z.old }
-    ensures settled { result ≡ false → z.new ≡ z.old }
-{
-    let mut changed = turn(s, kind, n, axis, 0, z);
-    let mut left = z[0];
-    let mut i = 1;
-    while i + 1 < n {
+impl Axis<'_> {
+    // The turn at the first or the last waypoint; where the ends are free there is none. Answers whether its number changed.
+    fn turn(&self, i: usize, z: &mut [i64]) -> bool
+        requires { AtEnd self.now.sheet.points i × AllSmall self.now.sheet.points z.old }
+        ensures number { z.new ≡ systems.turn (rows (along self.now)) 65536 z.old i }
+        ensures settled { result ≡ false → z.new ≡ z.old }
+    {
+        let Some(row) = self.end_row(i) else {
+            return false;
+        };
         let old = z[i];
-        let x = renewed(row::inner_at(s, kind, n, axis, i), left, z[i + 1]);
-        if x == old {
-            left = old;
-        } else {
-            z[i] = x;
-            changed = true;
-            left = x;
-        }
-        i = i + 1;
+        let x = renewed(row, z[self.before(i)], z[self.after(i)]);
+        z[i] = x;
+        x != old
     }
-    turn(s, kind, n, axis, i, z) | changed
-}
 
-// L3 starts from zeros.
-fn clear(z: &mut [i64])
-    ensures { z.new ≡ replicate (length z.old) (pos 0) }
-{
-    let mut i = 0;
-    while i < z.len() {
-        z[i] = 0;
-        i = i + 1;
-    }
-}
-
-// L3: forty passes. After one that changed nothing the others would change nothing either.
-pub fn lay_axis(s: &[u8], kind: EndKind, n: usize, axis: usize, z: &mut [i64])
-    requires { OnSheet s.now kind n axis × (length z.old ≡ n) }
-    ensures { z.new ≡ bends (course s.now axis) }
-{
-    clear(z);
-    let mut done: usize = 0;
-    while done < 40 {
-        if !pass(s, kind, n, axis, z) {
-            return;
+    // L2: the turns from the first waypoint to the last. Answers whether a number changed. The number just set is the next row's left neighbour; where it is
+    // the old one, the old one is taken, so that the next division need not wait for it.
+    fn pass(&self, z: &mut [i64]) -> bool
+        requires { Reached self.now z.old }
+        ensures numbers { z.new ≡ systems.pass (rows (along self.now)) 65536 z.old }
+        ensures settled { result ≡ false → z.new ≡ z.old }
+    {
+        let last = self.sheet.points - 1;
+        let mut changed = self.turn(0, z);
+        let mut left = z[0];
+        for i in 1..last {
+            let old = z[i];
+            let x = renewed(self.inner_at(i), left, z[i + 1]);
+            if x == old {
+                left = old;
+            } else {
+                z[i] = x;
+                changed = true;
+                left = x;
+            }
         }
-        done = done + 1;
+        self.turn(last, z) | changed
+    }
+
+    // L3: from zeros, forty passes. After one that changed nothing the others would change nothing either.
+    pub fn lay(&self, z: &mut [i64])
+        requires { length z.old ≡ self.now.sheet.points }
+        ensures { z.new ≡ bends (along self.now) }
+    {
+        z.fill(0);
+        for _ in 0..PASSES {
+            if !self.pass(z) {
+                return;
+            }
+        }
     }
 }

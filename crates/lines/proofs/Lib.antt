@@ -1,5 +1,4 @@
 -- Why a line is put as it is defined.
 pub mod Decimal
-pub mod Joined
 pub mod Room
 pub mod Worked

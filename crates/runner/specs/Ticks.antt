@@ -1,22 +1,15 @@
 -- The leg, offset and laps of a tick (P3, P4, M10), the ticks that a runner has flown (M11), and the runner from a tick (N10, A6).
-use Rattle.std.specs.Prelude.{◌≡◌, Bool, true, false, cond, ◌&&◌, List, [], ◌∷◌, ℕ, zero, suc, ◌+◌, ◌-◌, ◌*◌, ◌/◌, ◌%◌, ltb, pos}
+use Rattle.std.specs.Prelude.{Bool, true, false, cond, ◌&&◌, List, [], ◌∷◌, ℕ, zero, suc, ◌+◌, ◌-◌, ◌*◌, ◌/◌, ◌%◌, ltb, pos, Result, Ok, Err}
 use Rattle.ends.specs.declared.EndKind.{EndKind}
 use Rattle.ends.specs.declared.EndKind.TheVariants.{Free, Held, Closed}
 use Rattle.sheet.specs.Answers.{Told, refused}
 use Rattle.sheet.specs.Bytes.{sum_below}
 use Rattle.sheet.specs.Fields.{kind, legs, leg, ticks}
-use Rattle.sheet.specs.Reading.{most_points, read_by, Accepted}
+use Rattle.sheet.specs.Reading.{most_points, read_by}
+use Rattle.sheet.specs.declared.Refusal.{Refusal}
 use Rattle.sheet.specs.declared.Refusal.TheVariants.{Past}
 use Rattle.answers.specs.Answers.{pass_on, guard}
 use Rattle.runner.specs.declared.Runner.{Runner}
-use Rattle.runner.specs.declared.RunnerAnswer.{RunnerAnswer}
-use Rattle.runner.specs.declared.RunnerAnswer.TheVariants.{At, Refused}
-
--- what a call knows of a sheet that it has read: it is accepted, and k and l are its kind and L
-pub record IsRead (s : List ℕ) (k : EndKind) (l : ℕ) : Type 0 where
-  pub accepted : Accepted s
-  pub is_kind : k ≡ kind s
-  pub is_legs : l ≡ legs s
 
 -- M1: the runner at a leg and offset with no lap flown; and any runner at another count of laps
 abbrev pub runner : ℕ → ℕ → Runner
@@ -29,14 +22,14 @@ at_lap l r = record { leg = r.leg; offset = r.offset; laps = l }
 abbrev pub found : Runner → Told
 found r = record { number = 0; values = pos r.leg ∷ pos r.offset ∷ pos r.laps ∷ [] }
 
-abbrev pub told_runner : RunnerAnswer → Told
-told_runner (At r) = found r
-told_runner (Refused r) = refused r
+abbrev pub told_runner : Result Runner Refusal → Told
+told_runner (Ok r) = found r
+told_runner (Err r) = refused r
 
 -- A9: the runner that an answer leaves of one that a call was asked to move
-abbrev pub left : RunnerAnswer → Runner → Runner
-left (At next) r = next
-left (Refused q) r = r
+abbrev pub left : Result Runner Refusal → Runner → Runner
+left (Ok next) r = next
+left (Err q) r = r
 
 -- an open course has ends, free or held
 abbrev pub is_open : EndKind → Bool

@@ -2,27 +2,17 @@
 #![tactic(auto)]
 
 mod backs;
-mod records;
 mod steps;
 mod ticks;
 
-pub use backs::{back, back_record, backed};
-pub use records::RunnerOutcome;
-use sheet::Refusal;
-pub use steps::{is_adrift, is_landed, moved, onward_by, step, step_record, stepped, stepped_by};
+pub use backs::{back, backed};
+pub use steps::{is_adrift, is_landed, moved, step, stepped, stepped_by};
 pub use ticks::{is_past, runner_at_tick, runner_at_tick_by, spot_at};
 
 // M1: which leg, the first being 0, how many ticks along it, and the laps flown.
-#[derive(Clone, Copy)]
+#[derive(Clone, Copy, Debug, PartialEq, Eq)]
 pub struct Runner {
     pub leg: u64,
     pub offset: u64,
     pub laps: u64,
-}
-
-// A runner, or the refusal.
-#[derive(Clone, Copy)]
-pub enum RunnerAnswer {
-    At(Runner),
-    Refused(Refusal),
 }

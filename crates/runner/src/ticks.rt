@@ -1,31 +1,31 @@
 // The leg, offset and laps of a tick (P3, P4, P7, M10), and the runner from a tick (A6). For place too.
-ghost use Rattle.std.specs.Prelude.{◌≡◌, ◌&&◌, ℕ, ◌+◌, ◌-◌, ◌*◌, ◌≤◌, ◌<◌, ltb, length, get_or};
+ghost use Rattle.std.specs.Prelude.{◌≡◌, ℕ, ◌+◌, ◌-◌, ◌*◌, ◌≤◌, ◌<◌, length, get_or};
 ghost use Rattle.sheet.specs.Bytes.{sum_below};
 ghost use Rattle.sheet.specs.Carried.{stride, Carried};
-ghost use Rattle.sheet.specs.Fields.{leg, ticks as sum_of_legs};
+ghost use Rattle.sheet.specs.Fields.{legs, leg};
 ghost use Rattle.sheet.specs.Reading.{most_points};
-ghost use Rattle.runner.specs.Ticks.{IsRead, is_open, reduced, laps_in, at_lap, walk, spot_at, runner_at_tick, runner_at_tick_by, told_runner};
+ghost use Rattle.runner.specs.Ticks.{is_open, reduced, laps_in, at_lap, walk, spot_at, past, runner_at_tick, runner_at_tick_by, told_runner};
 
-use crate::{Runner, RunnerAnswer};
+use crate::Runner;
+use answers::OpenSheet;
 use ends::EndKind;
-use sheet::{MOST_POINTS, Reading, Refusal, STRIDE, SUMS};
+use sheet::{MOST_POINTS, Refusal, STRIDE, SUMS};
 
 // An open course has ends, free or held.
 pub fn is_open(kind: EndKind) -> bool
     ensures { result ≡ is_open kind }
 {
     match kind {
-        EndKind::Free => true,
-        EndKind::Held => true,
+        EndKind::Free | EndKind::Held => true,
         EndKind::Closed => false,
     }
 }
 
 // N10: an open course has no tick over P.
-pub fn is_past(kind: EndKind, ticks: u64, tick: u64) -> bool
-    ensures { result ≡ (is_open kind && ltb ticks tick) }
+pub fn is_past(sheet: &OpenSheet<'_>, tick: u64) -> bool
+    ensures { result ≡ past sheet.now.bytes.now tick }
 {
-    is_open(kind) & (ticks < tick)
+    is_open(sheet.kind) & (sheet.ticks < tick)
 }
 
 // P4: ticks of a closed course go round.
@@ -34,8 +34,7 @@ fn reduced(kind: EndKind, ticks: u64, tick: u64) -> u64
     ensures { result ≡ reduced kind ticks tick }
 {
     match kind {
-        EndKind::Free => tick,
-        EndKind::Held => tick,
+        EndKind::Free | EndKind::Held => tick,
         EndKind::Closed => tick % ticks,
     }
 }
@@ -46,8 +45,7 @@ fn laps_in(kind: EndKind, ticks: u64, tick: u64) -> u64
     ensures { result ≡ laps_in kind ticks tick }
 {
     match kind {
-        EndKind::Free => 0,
-        EndKind::Held => 0,
+        EndKind::Free | EndKind::Held => 0,
         EndKind::Closed => tick / ticks,
     }
 }
@@ -59,14 +57,13 @@ fn sixteenth_at(legs: usize, sums: &[u32; SUMS], tick: u64) -> usize
     ensures from { (stride * result < legs) × (get_or sums.now result 0 ≤ tick) }
     ensures till { stride * (result + 1) < legs → tick < get_or sums.now (result + 1) 0 }
 {
-    let mut b = 0;
-    while STRIDE * b + STRIDE < legs {
+    let last = (legs - 1) / STRIDE;
+    for b in 0..last {
         if tick < sums[b + 1] as u64 {
             return b;
         }
-        b = b + 1;
     }
-    b
+    last
 }
 
 // P3, P7: the walk along the legs, from leg `first` and the sum before it on. It carries the sum along; a tick that no leg ends after is on the last. The laps are the caller's.
@@ -75,9 +72,8 @@ fn leg_from(s: &[u8], legs: usize, first: usize, before: u64, tick: u64, laps: u
     requires before_value { (before ≡ sum_below (leg s.now) first) × (before ≤ tick) }
     ensures { result ≡ at_lap laps (walk (leg s.now) (legs - 1) 0 tick) }
 {
-    let mut i = first;
     let mut start = before;
-    while i + 1 < legs {
+    for i in first..legs - 1 {
         let end = start + sheet::leg_length(s, i);
         if tick < end {
             return Runner {
@@ -87,56 +83,43 @@ fn leg_from(s: &[u8], legs: usize, first: usize, before: u64, tick: u64, laps: u
             };
         }
         start = end;
-        i = i + 1;
     }
     Runner {
-        leg: i as u64,
+        leg: legs as u64 - 1,
         offset: tick - start,
         laps,
     }
 }
 
 // The leg and offset of a tick, reduced first, with its laps; reading left the sums.
-pub fn spot_at(
-    s: &[u8],
-    kind: EndKind,
-    legs: usize,
-    ticks: u64,
-    sums: &[u32; SUMS],
-    tick: u64,
-) -> Runner
-    requires read { IsRead s.now kind legs }
-    requires ticks_value { (ticks ≡ sum_of_legs s.now) × Carried s.now legs sums.now }
-    ensures { result ≡ spot_at s.now tick }
+pub fn spot_at(sheet: &OpenSheet<'_>, sums: &[u32; SUMS], tick: u64) -> Runner
+    requires { Carried sheet.now.bytes.now (legs sheet.now.bytes.now) sums.now }
+    ensures { result ≡ spot_at sheet.now.bytes.now tick }
 {
-    let here = reduced(kind, ticks, tick);
-    let laps = laps_in(kind, ticks, tick);
+    let here = reduced(sheet.kind, sheet.ticks, tick);
+    let laps = laps_in(sheet.kind, sheet.ticks, tick);
+    let legs = sheet.legs();
     let b = sixteenth_at(legs, sums, here);
-    leg_from(s, legs, STRIDE * b, sums[b] as u64, here, laps)
+    leg_from(sheet.bytes, legs, STRIDE * b, sums[b] as u64, here, laps)
 }
 
 // The runner from a tick (A6), on sheets with up to `limit` waypoints. Tests 1 to 8 and 10.
-pub fn runner_at_tick_by(limit: usize, s: &[u8], tick: u64) -> RunnerAnswer
+pub fn runner_at_tick_by(limit: usize, s: &[u8], tick: u64) -> Result<Runner, Refusal>
     ensures { told_runner result ≡ runner_at_tick_by limit s.now tick }
 {
     let mut sums = [0u32; SUMS];
-    let reading = sheet::read_with_sums(limit, s, &mut sums);
-    let Reading::Course {
-        kind,
-        points,
-        ticks,
-    } = reading
-    else {
-        return RunnerAnswer::Refused(answers::refusal_of(reading));
+    let reading = answers::open_with_sums(limit, s, &mut sums);
+    let Ok(sheet) = reading else {
+        return Err(reading.unwrap_err());
     };
-    if is_past(kind, ticks, tick) {
-        return RunnerAnswer::Refused(Refusal::Past);
+    if is_past(&sheet, tick) {
+        return Err(Refusal::Past);
     }
-    RunnerAnswer::At(spot_at(s, kind, ends::leg_count(kind, points), ticks, &sums, tick))
+    Ok(spot_at(&sheet, &sums, tick))
 }
 
 // The station's.
-pub fn runner_at_tick(s: &[u8], tick: u64) -> RunnerAnswer
+pub fn runner_at_tick(s: &[u8], tick: u64) -> Result<Runner, Refusal>
     ensures { told_runner result ≡ runner_at_tick s.now tick }
 {
     runner_at_tick_by(MOST_POINTS, s, tick)

@@ -1,4 +1,4 @@
--- Numbers of 32 bits as the code reads them: moved up by 2^31 modulo 2^32, so that their sign needs no test; and what a passed test tells of a number.
+-- Numbers of 32 bits as the code reads them, and what a passed test tells of a number.
 use mathlib.Core.Path.{◌≡◌, refl, sym, ap, ◌∙◌}
 use mathlib.Core.Bool.{Bool, false, ◌||◌}
 use mathlib.Core.List.{List}
@@ -7,9 +7,10 @@ use native.Mathlib.Nat.{add-zero}
 use native.Mathlib.Omega.{arith}
 use borrow.Author.Tests.{lt-ltb, le-ltb, ltb-false, eq-eqb, ne_eqb}
 use lib.Dec.{ltb, eqb, leb-suc-suc}
-use lib.IntN.{ℤ, pos, negsuc, neg_ℤ, nat_abs, ◌-ℤ◌}
+use lib.IntN.{ℤ, pos, negsuc, neg_ℤ, nat_abs}
 use lib.Signed.{lt_z, ◌≤ℤ◌, lt_z_no}
-use mir.Syntax.{w64}
+use mir.Syntax.{w32, w64}
+use Rattle.std.proofs.Math.Facts.{to_z-neg, to_z_pos}
 use mir.Val.{to_z, of_z}
 use Rattle.integers.proofs.Machine.{back, fits_abs}
 use Rattle.integers.proofs.Order.{le_or_lt, by_test}
@@ -26,12 +27,12 @@ pub signed_high : (x : ℕ) → 2147483648 ≤ x → x < 4294967296 → signed32
 unfolding signed32
 signed_high x h k = simp (le-ltb x 2147483648 h, lt-ltb x 4294967296 k) (ap negsuc (omega arith))
 
--- moved up by 2^31 and back
-pub moved_back : (x : ℕ) → x < 4294967296 → pos ((x + 2147483648) % 4294967296) -ℤ pos 2147483648 ≡ signed32 x
-moved_back x h =
-    le_or_lt 2147483648 x (pos ((x + 2147483648) % 4294967296) -ℤ pos 2147483648 ≡ signed32 x)
-    (λ k. rw (signed_high x k h) (simp (lt-ltb ((x + 2147483648) % 4294967296) 2147483648 (omega arith)) (ap negsuc (omega arith))))
-    (λ k. rw (signed_low x k) (simp (le-ltb ((x + 2147483648) % 4294967296) 2147483648 (omega arith)) (ap pos (omega arith))))
+-- std's signed number of 32 bits
+pub signed_bits : (x : ℕ) → x < 4294967296 → to_z w32 x ≡ signed32 x
+signed_bits x h =
+    le_or_lt 2147483648 x (to_z w32 x ≡ signed32 x)
+    (λ k. let e : x ≡ 4294967296 - suc (4294967295 - x) = omega arith in ap (to_z w32) e ∙ to_z-neg w32 (4294967295 - x) (omega arith) ∙ sym (signed_high x k h))
+    (λ k. to_z_pos w32 k ∙ sym (signed_low x k))
 
 pub signed_size : (x : ℕ) → x < 4294967296 → nat_abs (signed32 x) ≤ 2147483648
 signed_size x h =

@@ -5,7 +5,7 @@ ghost use Rattle.sheet.specs.Fields.{leg};
 ghost use Rattle.sheet.specs.Reading.{leg_outside, most_points};
 ghost use Rattle.sheet.specs.Carried.{Carried, most_sums};
 
-use crate::bytes::narrow;
+use crate::bytes::read_u16;
 use crate::limits::leg_outside;
 use crate::{STRIDE, SUMS};
 
@@ -18,10 +18,9 @@ fn add_some(s: &[u8], from: usize, count: usize) -> Option<u32>
     let mut ticks = 0u32;
     let mut outside = false;
     for i in 0..count {
-        let at = 8 + 2 * (from + i);
-        let h = narrow(s[at]) * 256 + narrow(s[at + 1]);
-        outside |= leg_outside(h as u64);
-        ticks += h as u32;
+        let h = read_u16(s, 8 + 2 * (from + i));
+        outside |= leg_outside(u64::from(h));
+        ticks += u32::from(h);
     }
     if outside { None } else { Some(ticks) }
 }

@@ -1,5 +1,5 @@
 // The reader (A2, A16), in one walk over the sheet. Its largest N is a number that is handed over: 512 at the station, less on the board.
-ghost use Rattle.std.specs.Prelude.{◌≡◌, cond, ◌||◌, [], ◌∷◌, ◌+◌, ◌*◌, ◌≤◌, ◌<◌, ltb, nat_abs, length};
+ghost use Rattle.std.specs.Prelude.{◌≡◌, cond, ◌||◌, [], ◌∷◌, ◌+◌, ◌*◌, ◌≤◌, ◌<◌, ltb, length};
 ghost use Rattle.sheet.specs.Answers.{told};
 ghost use Rattle.sheet.specs.Bytes.{be16, be32, signed32, any_below};
 ghost use Rattle.sheet.specs.Fields.{kind_field, kind_of, waypoints_from, waypoint, slopes_from, slope_bytes, sheet_length};
@@ -31,27 +31,6 @@ fn longest_sheet() -> usize
     ensures { result ≡ longest_sheet }
 {
     LONGEST_SHEET
-}
-
-// One side's three slopes (S8).
-#[derive(Clone, Copy)]
-struct Triple {
-    north: i64,
-    east: i64,
-    up: i64,
-}
-
-// Those that stand from `at` on.
-fn read_triple(s: &[u8], at: usize) -> Triple
-    requires { at + 12 ≤ length s.now }
-    ensures numbers { (result.north ≡ signed32 (be32 s.now at)) × (result.east ≡ signed32 (be32 s.now (at + 4))) × (result.up ≡ signed32 (be32 s.now (at + 8))) }
-    ensures fits { (nat_abs result.north ≤ 2147483648) × (nat_abs result.east ≤ 2147483648) × (nat_abs result.up ≤ 2147483648) }
-{
-    Triple {
-        north: read_signed(s, at),
-        east: read_signed(s, at + 4),
-        up: read_signed(s, at + 8),
-    }
 }
 
 // N7, of the waypoint whose numbers start at `at`. (By returns: with `|` the reader takes a sixth longer.)
@@ -86,8 +65,9 @@ fn side_outside(s: &[u8], at: usize) -> bool
     requires { at + 12 ≤ length s.now }
     ensures { result ≡ any_below (λ axis. slope_outside (signed32 (be32 s.now (at + 4 * axis)))) 3 }
 {
-    let x = read_triple(s, at);
-    slope_outside(x.north) | slope_outside(x.east) | slope_outside(x.up)
+    slope_outside(read_signed(s, at))
+        | slope_outside(read_signed(s, at + 4))
+        | slope_outside(read_signed(s, at + 8))
 }
 
 // N8: slopes are a held course's alone (S8).

@@ -1,5 +1,5 @@
 -- The line that the stand puts out for a refusal (T4), as the list of its bytes. For words and output.
-use Rattle.std.specs.Prelude.{List, ◌++◌, ℕ, take, replicate}
+use Rattle.std.specs.Prelude.{List, ◌++◌, ℕ}
 use Rattle.sheet.specs.Answers.{number_of}
 use Rattle.sheet.specs.declared.Refusal.{Refusal}
 use Rattle.sheet.specs.declared.Refusal.TheVariants.{Torn, Edition, Ends, Points, Size, Leg, Reach, Slope, Shelf, Past, Adrift, Bend, Landed, Page, Start, Shut, Apart, Crowded, Seats, Turn, Grain, Ink, Board}
@@ -35,13 +35,3 @@ word Board = ascii "board"
 -- T4: `refused`, the number in decimal, the word
 abbrev pub refusal_line : Refusal → List ℕ
 refusal_line r = ascii "refused " ++ digits_within 20 (number_of r) ++ ascii " " ++ word r ++ ascii "\n"
-
--- a line in 19 bytes, filled up with spaces
-abbrev row : Refusal → List ℕ
-row r = take 19 (refusal_line r ++ replicate 19 32)
-
--- the rows of all lines, in the order of their numbers
-unfoldable pub refusal_rows : List ℕ
-refusal_rows =
-    row Torn ++ row Edition ++ row Ends ++ row Points ++ row Size ++ row Leg ++ row Reach ++ row Slope ++ row Shelf ++ row Past ++ row Adrift ++ row Bend ++ row Landed ++ row Page ++ row Start
-    ++ row Shut ++ row Apart ++ row Crowded ++ row Seats ++ row Turn ++ row Grain ++ row Ink ++ row Board

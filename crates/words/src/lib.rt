@@ -1,58 +1,49 @@
-// The line of each refusal (T4), whole, in one byte string (F6). For the stand's output.
+// The line of each refusal (T4), whole, in a byte string (F6). For the stand's output.
 #![tactic(auto)]
 
-ghost use Rattle.std.specs.Prelude.{◌≡◌, ◌==◌, ◌≤◌, length, take};
-ghost use Rattle.std.specs.List.{position};
-ghost use Rattle.words.specs.Words.{refusal_line, refusal_rows};
+ghost use Rattle.std.specs.Prelude.{◌≡◌, ◌++◌, ◌+◌, ◌≤◌, length, take};
+ghost use Rattle.words.specs.Words.{refusal_line};
 
+use lines::Text;
 use sheet::Refusal;
 
-// Where a byte stands first.
-fn find(bytes: &[u8], byte: u8) -> Option<usize>
-    ensures { result ≡ position (λ b. b == byte) bytes.now }
+// Reading refuses with 1 to 8 alone; the table is whole.
+fn line_of(refusal: Refusal) -> &'static [u8]
+    ensures { result.now ≡ refusal_line refusal }
 {
-    bytes.iter().position(|b| *b == byte)
+    match refusal {
+        Refusal::Torn => b"refused 1 torn\n",
+        Refusal::Edition => b"refused 2 edition\n",
+        Refusal::Ends => b"refused 3 ends\n",
+        Refusal::Points => b"refused 4 points\n",
+        Refusal::Size => b"refused 5 size\n",
+        Refusal::Leg => b"refused 6 leg\n",
+        Refusal::Reach => b"refused 7 reach\n",
+        Refusal::Slope => b"refused 8 slope\n",
+        Refusal::Shelf => b"refused 9 shelf\n",
+        Refusal::Past => b"refused 10 past\n",
+        Refusal::Adrift => b"refused 11 adrift\n",
+        Refusal::Bend => b"refused 12 bend\n",
+        Refusal::Landed => b"refused 13 landed\n",
+        Refusal::Page => b"refused 14 page\n",
+        Refusal::Start => b"refused 15 start\n",
+        Refusal::Shut => b"refused 16 shut\n",
+        Refusal::Apart => b"refused 17 apart\n",
+        Refusal::Crowded => b"refused 18 crowded\n",
+        Refusal::Seats => b"refused 19 seats\n",
+        Refusal::Turn => b"refused 20 turn\n",
+        Refusal::Grain => b"refused 21 grain\n",
+        Refusal::Ink => b"refused 22 ink\n",
+        Refusal::Board => b"refused 23 board\n",
+    }
 }
 
-// Copies the refusal's line, which begins its row and ends with the line feed, to the buffer's front, and answers its length.
-fn put_row(rows: &[u8], refusal: Refusal, out: &mut [u8]) -> usize
-    requires { (rows.now ≡ refusal_rows) × (19 ≤ length out.old) }
-    ensures { (result ≤ length out.new) × (take result out.new ≡ refusal_line refusal) }
+// The refusal's line at a text's end.
+pub fn put_refusal(out: &mut Text<'_>, refusal: Refusal)
+    requires { out.old.len + 19 ≤ length out.old.bytes.now }
+    ensures text { take out.new.len out.new.bytes.now ≡ take out.old.len out.old.bytes.now ++ refusal_line refusal }
+    ensures len { out.new.len ≡ out.old.len + length (refusal_line refusal) }
+    ensures room { length out.new.bytes.now ≡ length out.old.bytes.now }
 {
-    let start = 19 * (sheet::number_of(refusal) as usize - 1);
-    let row = &rows[start..start + 19];
-    let count = find(row, b'\n').unwrap() + 1;
-    out[..count].copy_from_slice(&row[..count]);
-    count
-}
-
-// The lines stand in rows of 19 bytes, in the order of their numbers, each filled up with spaces. Reading refuses with 1 to 8 alone; the table is whole.
-pub fn put_refusal(out: &mut [u8], refusal: Refusal) -> usize
-    requires { 19 ≤ length out.old }
-    ensures { (result ≤ length out.new) × (take result out.new ≡ refusal_line refusal) }
-{
-    let rows = b"refused 1 torn\n    \
-                 refused 2 edition\n \
-                 refused 3 ends\n    \
-                 refused 4 points\n  \
-                 refused 5 size\n    \
-                 refused 6 leg\n     \
-                 refused 7 reach\n   \
-                 refused 8 slope\n   \
-                 refused 9 shelf\n   \
-                 refused 10 past\n   \
-                 refused 11 adrift\n \
-                 refused 12 bend\n   \
-                 refused 13 landed\n \
-                 refused 14 page\n   \
-                 refused 15 start\n  \
-                 refused 16 shut\n   \
-                 refused 17 apart\n  \
-                 refused 18 crowded\n\
-                 refused 19 seats\n  \
-                 refused 20 turn\n   \
-                 refused 21 grain\n  \
-                 refused 22 ink\n    \
-                 refused 23 board\n  ";
-    put_row(rows, refusal, out)
+    out.push(line_of(refusal));
 }

@@ -10,6 +10,6 @@ pub returns : goal.returns
 unfolding adrift
 returns c =
     let a = c.args in
-    let lap_tried : adrift a.s.now a.at ≡ true → c.is_off_legs.result ≡ false → c.is_open.result ≡ true → a.at.laps ≡ 1 → Tried =
+    let lap_tried : adrift a.sheet.now.bytes.now a.at ≡ true → c.is_off_legs.result ≡ false → c.is_open.result ≡ true → a.at.laps ≡ 1 → Tried =
     λ f off o l. tried (λ (need : goal.returns). need c) (◌∙◌ {b = true} (simp (off, o, l) refl) (sym f)) in
-    let open_ended = c.is_open.ensures ∙ ap is_open c.requires.is_kind in λ i. c.is_off_legs.ensures i || open_ended i && ltb 0 a.at.laps
+    let open_ended = c.is_open.ensures ∙ ap is_open a.sheet.now.is_kind in λ i. c.is_off_legs.ensures i || open_ended i && ltb 0 a.at.laps

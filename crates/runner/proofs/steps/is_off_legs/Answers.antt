@@ -10,16 +10,16 @@ use Rattle.runner.proofs.steps.is_off_legs.Goals as goal
 
 pub returns-then-legs-at : goal.returns-then-legs-at
 unfolding off_legs
-returns-then-legs-at c = simp (le-ltb c.args.at.leg (legs c.args.s.now) (omega (arith, c.requires.is_legs)))
+returns-then-legs-at c = simp (le-ltb c.args.at.leg (legs c.args.sheet.now.bytes.now) (omega arith))
 
 pub leg_length-requires : goal.leg_length-requires
-leg_length-requires c = let r = room _ _ _ c.requires in omega arith
+leg_length-requires c = let r = room _ c.args.sheet.now.accepted in omega arith
 
 pub returns-then-at-leg_length : goal.returns-then-at-leg_length
-returns-then-at-leg_length c = sym (on_legs c.args.s.now c.args.at (omega (arith, c.requires.is_legs)) (omega arith))
+returns-then-at-leg_length c = sym (on_legs c.args.sheet.now.bytes.now c.args.at (omega arith) (omega arith))
 
 pub returns : goal.returns
 unfolding off_legs
 returns c =
-    let s = c.args.s.now in let r = c.args.at in
-    ap not c.is_landed.ensures ∙ simp (lt-ltb r.leg (legs s) (omega (arith, c.requires.is_legs)), le-ltb r.offset (leg s r.leg) (omega arith))
+    let s = c.args.sheet.now.bytes.now in let r = c.args.at in
+    ap not c.is_landed.ensures ∙ simp (lt-ltb r.leg (legs s) (omega arith), le-ltb r.offset (leg s r.leg) (omega arith))

@@ -17,9 +17,6 @@ stopped : (h : ℕ → ℕ) (legs i start tick laps : ℕ) → i < legs → star
     → at_lap laps (runner i (tick - start)) ≡ at_lap laps (walk h (legs - 1) 0 tick)
 stopped h legs i start tick laps p e q till = ap (at_lap laps) ((λ j. runner i (tick - e j)) ∙ walk_by_sums h legs i tick p (omega arith) till)
 
-pub loop-i-init : goal.loop-i-init
-loop-i-init c = record { is_leg = omega arith; is_sum = omega arith; from = omega arith }
-
 pub overflow_add-end : goal.overflow_add-end
 overflow_add-end c =
     let h = leg c.args.s.now in let l = c.loop-i in
@@ -30,13 +27,15 @@ pub returns-then-tick-end : goal.returns-then-tick-end
 returns-then-tick-end c =
     let h = leg c.args.s.now in let l = c.loop-i in
     let e = end_is h l.i l.start c.leg_length.result l.invariant.is_sum c.leg_length.ensures in
-    stopped h _ l.i l.start _ _ l.invariant.is_leg l.invariant.is_sum l.invariant.from (inl (omega (arith, e)))
+    stopped h _ l.i l.start _ _ (omega arith) l.invariant.is_sum l.invariant.from (inl (omega (arith, e)))
 
 pub loop-i-preserved : goal.loop-i-preserved
 loop-i-preserved c =
     let l = c.loop-i in
-    record { is_leg = omega arith; is_sum = end_is (leg c.args.s.now) l.i l.start c.leg_length.result l.invariant.is_sum c.leg_length.ensures; from = omega arith }
+    record { is_sum = end_is (leg c.args.s.now) l.i l.start c.leg_length.result l.invariant.is_sum c.leg_length.ensures; from = omega arith }
 
 pub returns : goal.returns
 returns c =
-    let l = c.loop-i in stopped (leg c.args.s.now) _ l.i l.start _ _ l.invariant.is_leg l.invariant.is_sum l.invariant.from (inr (omega arith))
+    let h = leg c.args.s.now in let l = c.loop-i in
+    let last : l.i ≡ c.args.legs - 1 = omega arith in
+    stopped h _ (c.args.legs - 1) l.start _ _ (omega arith) (l.invariant.is_sum ∙ ap (sum_below h) last) l.invariant.from (inr (omega arith))

@@ -1,11 +1,8 @@
 -- `leg_from`: the carried sum is that of the legs before leg i, and the tick is not before it.
-use Rattle.std.proofs.Common.{◌-◌, ◌≡◌, ◌≤◌, ◌<◌}
+use Rattle.std.proofs.Common.{◌≡◌, ◌≤◌}
 use Rattle.sheet.specs.Bytes.{sum_below}
 use Rattle.sheet.specs.Fields.{leg}
 use Rattle.runner.proofs.ticks.leg_from.Given as goal
 
 abbrev pub invariant-loop-i : goal.invariant-loop-i
-invariant-loop-i l = record { is_leg : l.i < l.legs; is_sum : l.start ≡ sum_below (leg l.s) l.i; from : l.start ≤ l.tick }
-
-abbrev pub decreases-loop-i : goal.decreases-loop-i
-decreases-loop-i l = l.legs - l.i
+invariant-loop-i l = record { is_sum : l.start ≡ sum_below (leg l.s) l.i; from : l.start ≤ l.tick }

@@ -1,5 +1,5 @@
 -- `add_legs`: sixteen legs more in the sum, and their sum kept, or one of them outside; behind the loop the legs that are left.
-use Rattle.std.proofs.Common.{◌≡◌, ◌+◌, ◌*◌, ◌-◌, ◌/◌, ◌%◌, ◌≤◌, ◌<◌, ◌||◌, ◌∙◌, ℕ, Bool, List, true, false, ap, refl, subst, sym, arith, Option, None, MatchOption}
+use Rattle.std.proofs.Common.{◌≡◌, ◌+◌, ◌*◌, ◌-◌, ◌/◌, ◌%◌, ◌≤◌, ◌||◌, ◌∙◌, ℕ, Bool, List, true, false, ap, refl, subst, sym, arith, Option, None, MatchOption}
 use mathlib.Core.Bool.{or-true}
 use native.Mathlib.Nat.{div-add-mod}
 use lib.ListN.{length-set}

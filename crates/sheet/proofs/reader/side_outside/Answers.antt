@@ -6,8 +6,7 @@ use Rattle.sheet.proofs.reader.side_outside.Goals as goal
 
 pub returns : goal.returns
 returns c =
-    let e = c.read_triple-x.ensures in
     any_axis (λ axis. slope_outside) c.args.s.now c.args.at
-    (c.slope_outside.ensures ∙ ap slope_outside (as_read e.numbers.0 e.fits.0))
-    (c.slope_outside-2.ensures ∙ ap slope_outside (as_read e.numbers.1 e.fits.1))
-    (c.slope_outside-3.ensures ∙ ap slope_outside (as_read e.numbers.2 e.fits.2))
+    (c.slope_outside.ensures ∙ ap slope_outside (as_read c.read_signed.ensures.0 c.read_signed.ensures.1))
+    (c.slope_outside-2.ensures ∙ ap slope_outside (as_read c.read_signed-2.ensures.0 c.read_signed-2.ensures.1))
+    (c.slope_outside-3.ensures ∙ ap slope_outside (as_read c.read_signed-3.ensures.0 c.read_signed-3.ensures.1))
