@@ -1,5 +1,5 @@
 -- What the functions inside ask for: the numbers of one test, and a table of a leg's places.
-use Rattle.std.specs.Prelude.{List, [], ℕ, ◌+◌, ◌^◌, ◌≤◌, ◌<◌, ℤ, nat_abs, get_or}
+use Rattle.std.specs.Prelude.{List, [], ℕ, ◌^◌, ◌≤◌, ◌<◌, ℤ, nat_abs, get_or}
 use Rattle.systems.specs.Passes.{at}
 
 -- a leg's places in a table, a list for each axis
