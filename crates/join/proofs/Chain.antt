@@ -16,11 +16,10 @@ use Rattle.sheet.specs.Reading.{Accepted, most_points, read_sheet}
 use Rattle.sheet.specs.declared.Refusal.{Refusal}
 use Rattle.sheet.specs.declared.Refusal.TheVariants.{Page, Shut, Apart, Crowded}
 use Rattle.sheet.proofs.Below.{or_left, or_right}
-use Rattle.answers.specs.Answers.{pass_on, guard}
+use Rattle.answers.specs.Answers.{pass_on, guard, told_count}
 use Rattle.answers.proofs.Guards.{stopped, passed, not_refused, read_on, not_passed_on, done_changes, refused_keeps}
+use Rattle.std.specs.Prelude.{Ok}
 use Rattle.lists.specs.Lists.{points_in, size_of}
-use Rattle.lists.specs.Answer.{told_written}
-use Rattle.lists.specs.declared.Written.TheVariants.{Length}
 use Rattle.writer.specs.Inside.{over}
 use Rattle.writer.proofs.Parts.{long}
 use Rattle.join.specs.Joining.{is_shut, shut, apart, crowded, join_free, joined_lists, joined_sheet, join_sheets, joined_into}
@@ -50,7 +49,7 @@ module _ (s t : List ℕ) (room : ℕ) where
 
   -- what is left behind 18, 17, and both readings
   abbrev behind_crowded : Told
-  behind_crowded = guard (ltb room size) Page (told_written (Length size))
+  behind_crowded = guard (ltb room size) Page (told_count (Ok size))
 
   abbrev behind_apart : Told
   behind_apart = guard (crowded s t) Crowded behind_crowded
@@ -90,10 +89,10 @@ module _ (s t : List ℕ) (room : ℕ) where
             after_crowded = passed (crowded s t) Crowded behind_crowded few ∙ after_apart
 
             pub page_stops : ltb room size ≡ true → refused Page ≡ join_sheets s t room
-            page_stops e = stopped (ltb room size) Page (told_written (Length size)) e ∙ after_crowded
+            page_stops e = stopped (ltb room size) Page (told_count (Ok size)) e ∙ after_crowded
 
-            pub all_passed : ltb room size ≡ false → told_written (Length size) ≡ join_sheets s t room
-            all_passed e = passed (ltb room size) Page (told_written (Length size)) e ∙ after_crowded
+            pub all_passed : ltb room size ≡ false → told_count (Ok size) ≡ join_sheets s t room
+            all_passed e = passed (ltb room size) Page (told_count (Ok size)) e ∙ after_crowded
 
   -- ---- a call that is not refused
   pub record Joins : Type 0 where
@@ -101,7 +100,7 @@ module _ (s t : List ℕ) (room : ℕ) where
     pub meet : apart s t ≡ false
     pub few : points_in (joined_lists s t).waypoints ≤ most_points
     pub fits : size ≤ room
-    pub answer : join_sheets s t room ≡ told_written (Length size)
+    pub answer : join_sheets s t room ≡ told_count (Ok size)
 
   pub joins : (join_sheets s t room).number ≡ 0 → Joins
   unfolding join_sheets
@@ -111,7 +110,7 @@ module _ (s t : List ℕ) (room : ℕ) where
       let c = not_refused (shut s t) Shut (join_free s t room) b.1 in
       let d = not_refused (apart s t) Apart behind_apart c.1 in
       let e = not_refused (crowded s t) Crowded behind_crowded d.1 in
-      let f = not_refused (ltb room size) Page (told_written (Length size)) e.1 in
+      let f = not_refused (ltb room size) Page (told_count (Ok size)) e.1 in
       record {
         free = both_free s (points s) t (points t) a.0 b.0 c.0 refl refl;
         meet = d.0;

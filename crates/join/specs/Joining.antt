@@ -1,6 +1,6 @@
 -- Joining two sheets (A13, J1 to J3): the joined course, what the call answers, and what it leaves in the slice, after refused calls too.
 -- For join, exports and crate joined.
-use Rattle.std.specs.Prelude.{Bool, true, false, cond, ◌||◌, List, [], ◌++◌, ℕ, ◌-◌, ltb, eqb, ℤ, length, drop}
+use Rattle.std.specs.Prelude.{Bool, true, false, cond, ◌||◌, List, [], ◌++◌, ℕ, ◌-◌, ltb, eqb, ℤ, length, drop, Ok}
 use Rattle.std.specs.Int.Signed.{lt_z}
 use Rattle.ends.specs.declared.EndKind.{EndKind}
 use Rattle.ends.specs.declared.EndKind.TheVariants.{Free, Held, Closed}
@@ -9,10 +9,8 @@ use Rattle.sheet.specs.Bytes.{any_below}
 use Rattle.sheet.specs.Fields.{kind, points, waypoint}
 use Rattle.sheet.specs.Reading.{most_points, read_sheet}
 use Rattle.sheet.specs.declared.Refusal.TheVariants.{Page, Shut, Apart, Crowded}
-use Rattle.answers.specs.Answers.{pass_on, guard}
+use Rattle.answers.specs.Answers.{pass_on, guard, told_count}
 use Rattle.lists.specs.Lists.{Lists, lists, points_in, size_of, lists_of}
-use Rattle.lists.specs.Answer.{told_written}
-use Rattle.lists.specs.declared.Written.TheVariants.{Length}
 use Rattle.writer.specs.Sheets.{written_sheet}
 
 -- J2: free ends, the legs in turn, and of the second's waypoints all but the first
@@ -51,7 +49,7 @@ crowded s t = ltb most_points (points_in (joined_lists s t).waypoints)
 abbrev pub join_free : List ℕ → List ℕ → ℕ → Told
 join_free s t room =
     guard (apart s t) Apart
-    (guard (crowded s t) Crowded (guard (ltb room (size_of (joined_lists s t))) Page (told_written (Length (size_of (joined_lists s t))))))
+    (guard (crowded s t) Crowded (guard (ltb room (size_of (joined_lists s t))) Page (told_count (Ok (size_of (joined_lists s t))))))
 
 -- A13: the answer; 1 to 8 of the first sheet, then of the second, go before all others
 unfoldable pub join_sheets : List ℕ → List ℕ → ℕ → Told

@@ -1,10 +1,9 @@
 -- Worked joins (W15): course A flown on by another, and refusals in their order.
-use Rattle.std.specs.Prelude.{◌≡◌, List, [], ◌∷◌, ◌++◌, ℕ, ℤ, pos, replicate}
+use Rattle.std.specs.Prelude.{◌≡◌, List, [], ◌∷◌, ◌++◌, ℕ, ℤ, pos, replicate, Ok}
 use Rattle.sheet.specs.Answers.{refused}
 use Rattle.sheet.specs.declared.Refusal.TheVariants.{Torn, Leg, Page, Shut, Apart}
+use Rattle.answers.specs.Answers.{told_count}
 use Rattle.lists.specs.Lists.{lists}
-use Rattle.lists.specs.Answer.{told_written}
-use Rattle.lists.specs.declared.Written.TheVariants.{Length}
 use Rattle.writer.specs.Sheets.{written_sheet}
 use Rattle.writer.specs.Worked.{sheet_a}
 use Rattle.join.specs.Joining.{join_sheets, joined_into}
@@ -30,7 +29,7 @@ sheet_joined =
     ∷ 0 ∷ 0 ∷ 0 ∷ 9 ∷ 0 ∷ 0 ∷ 0 ∷ 10 ∷ 0 ∷ 0 ∷ 0 ∷ 24 ∷ []
 
 pub record JoinsTried : Type 0 where
-  pub length_joined : join_sheets sheet_a onward 62 ≡ told_written (Length 62)
+  pub length_joined : join_sheets sheet_a onward 62 ≡ told_count (Ok 62)
   -- into 64 bytes of 7: its 62, and the two behind them as they were
   pub slice_joined : joined_into sheet_a onward (replicate 64 7) ≡ sheet_joined ++ (7 ∷ 7 ∷ [])
   -- into 61 bytes, which stay

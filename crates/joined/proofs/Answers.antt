@@ -12,10 +12,9 @@ use Rattle.sheet.specs.Fields.{points, waypoint}
 use Rattle.sheet.specs.Reading.{most_points}
 use Rattle.sheet.specs.declared.Refusal.TheVariants.{Page}
 use Rattle.sheet.proofs.Below.{none_any}
-use Rattle.answers.specs.Answers.{guard}
+use Rattle.answers.specs.Answers.{guard, told_count}
+use Rattle.std.specs.Prelude.{Ok}
 use Rattle.lists.specs.Lists.{points_in, size_of}
-use Rattle.lists.specs.Answer.{told_written}
-use Rattle.lists.specs.declared.Written.TheVariants.{Length}
 use Rattle.join.specs.Joining.{is_shut, shut, differ, apart, joined_lists}
 use Rattle.join.specs.Inside.{BothFree}
 use Rattle.join.proofs.Differ.{same_not}
@@ -65,7 +64,7 @@ pub joined_where_few : JoinedWhereFew
 joined_where_few s t w few room =
     sym (after_crowded s t room w.first w.second (not_shut s t w) (not_apart s t w)
     (le-ltb most_points (points_in (joined_lists s t).waypoints) (omega (arith, count s t w))))
-    ∙ (λ i. guard (room_same s t w room i) Page (told_written (Length (size s t w i))))
+    ∙ (λ i. guard (room_same s t w room i) Page (told_count (Ok (size s t w i))))
 
 pub crowded_where_more : CrowdedWhereMore
 crowded_where_more s t w more room =

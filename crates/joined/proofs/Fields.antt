@@ -12,9 +12,9 @@ use Rattle.sheet.specs.Answers.{Told}
 use Rattle.sheet.specs.Bytes.{sum_below}
 use Rattle.sheet.specs.Fields.{kind, points, legs, leg, ticks, waypoint}
 use Rattle.sheet.proofs.Below.{any_none, sum_same, sum_append}
+use Rattle.answers.specs.Answers.{told_count}
+use Rattle.std.specs.Prelude.{Ok}
 use Rattle.lists.specs.Lists.{Lists, lists_of}
-use Rattle.lists.specs.Answer.{told_written}
-use Rattle.lists.specs.declared.Written.TheVariants.{Length}
 use Rattle.lists.proofs.Fields.{legs_are, leg_is, numbers_are, number_is}
 use Rattle.lists.proofs.Tests.{answered, nothing_applies}
 use Rattle.writer.specs.Sheets.{written_sheet}
@@ -125,7 +125,7 @@ module _ (s t out : List ℕ) (done : (join_sheets s t (length out)).number ≡ 
       second_free = passes.free.second_free;
       shared = shared;
     };
-    answered = passes.answer ∙ ap (λ n. told_written (Length n)) (sym (joined_long s t out done));
+    answered = passes.answer ∙ ap (λ n. told_count (Ok n)) (sym (joined_long s t out done));
     slice = left_done s t out done;
     accepted = written.accepted;
     fields = record {

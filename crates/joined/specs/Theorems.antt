@@ -1,15 +1,13 @@
 -- What is proved of joined sheets: which two are joined (A13), that the joined sheet is accepted and holds both courses in turn (J1 to J3), that it meets every
 -- waypoint of both at its tick (J4), and that demand 3 holds of it (J5).
-use Rattle.std.specs.Prelude.{◌≡◌, List, ◌++◌, ℕ, ◌+◌, ◌-◌, ◌≤◌, ◌<◌, ltb, ℤ, length, drop}
+use Rattle.std.specs.Prelude.{◌≡◌, List, ◌++◌, ℕ, ◌+◌, ◌-◌, ◌≤◌, ◌<◌, ltb, ℤ, length, drop, Ok}
 use Rattle.ends.specs.declared.EndKind.TheVariants.{Free}
 use Rattle.sheet.specs.Answers.{refused}
 use Rattle.sheet.specs.Fields.{kind, points, legs, leg, ticks, waypoint}
 use Rattle.sheet.specs.Reading.{Accepted}
 use Rattle.sheet.specs.declared.Refusal.TheVariants.{Page, Crowded}
-use Rattle.answers.specs.Answers.{guard}
+use Rattle.answers.specs.Answers.{guard, told_count}
 use Rattle.lists.specs.Lists.{lists_of}
-use Rattle.lists.specs.Answer.{told_written}
-use Rattle.lists.specs.declared.Written.TheVariants.{Length}
 use Rattle.join.specs.Joining.{joined_lists, joined_sheet, join_sheets, joined_into}
 use Rattle.place.specs.Places.{place_at_tick}
 use Rattle.place.specs.Theorems.{met, tick_of_waypoint}
@@ -26,7 +24,7 @@ pub record Meeting (s t : List ℕ) : Type 0 where
 -- A13, J3: such sheets of at most 513 waypoints are joined where the slice has room, in 20 bytes fewer than both have: a head and a waypoint
 abbrev pub JoinedWhereFew : Type 0
 JoinedWhereFew = (s t : List ℕ) → Meeting s t → points s + points t ≤ 513 → (room : ℕ)
-    → join_sheets s t room ≡ guard (ltb (room + 20) (length s + length t)) Page (told_written (Length (length s + length t - 20)))
+    → join_sheets s t room ≡ guard (ltb (room + 20) (length s + length t)) Page (told_count (Ok (length s + length t - 20)))
 
 -- N18: with more they are crowded, whatever the room
 abbrev pub CrowdedWhereMore : Type 0
@@ -47,7 +45,7 @@ pub record FieldsInTurn (j s t : List ℕ) : Type 0 where
 -- of both in turn, one by one and as a whole
 pub record WellJoined (s t out : List ℕ) : Type 0 where
   pub meeting : Meeting s t
-  pub answered : join_sheets s t (length out) ≡ told_written (Length (length (joined_sheet s t)))
+  pub answered : join_sheets s t (length out) ≡ told_count (Ok (length (joined_sheet s t)))
   pub slice : joined_into s t out ≡ joined_sheet s t ++ drop (length (joined_sheet s t)) out
   pub accepted : Accepted (joined_sheet s t)
   pub fields : FieldsInTurn (joined_sheet s t) s t

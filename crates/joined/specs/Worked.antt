@@ -1,10 +1,9 @@
 -- The ticks of A and the course that goes on from it, as one, and two courses at the most waypoints (W15).
-use Rattle.std.specs.Prelude.{◌≡◌, List, ℕ, ◌≤◌}
+use Rattle.std.specs.Prelude.{◌≡◌, List, ℕ, ◌≤◌, Ok}
 use Rattle.sheet.specs.Answers.{refused}
 use Rattle.sheet.specs.Fields.{points, ticks}
 use Rattle.sheet.specs.declared.Refusal.TheVariants.{Crowded}
-use Rattle.lists.specs.Answer.{told_written}
-use Rattle.lists.specs.declared.Written.TheVariants.{Length}
+use Rattle.answers.specs.Answers.{told_count}
 use Rattle.writer.specs.Worked.{sheet_a}
 use Rattle.join.specs.Joining.{join_sheets}
 use Rattle.join.specs.Worked.{onward, sheet_joined}
@@ -21,5 +20,5 @@ pub record TicksTried : Type 0 where
 
 -- 300 and 213 waypoints are joined, 300 and 214 are crowded, whatever the courses
 pub record MostTried : Type 0 where
-  pub most : (s t : List ℕ) → Meeting s t → points s ≡ 300 → points t ≡ 213 → (room : ℕ) → 7_174 ≤ room → join_sheets s t room ≡ told_written (Length 7_174)
+  pub most : (s t : List ℕ) → Meeting s t → points s ≡ 300 → points t ≡ 213 → (room : ℕ) → 7_174 ≤ room → join_sheets s t room ≡ told_count (Ok 7_174)
   pub one_more : (s t : List ℕ) → Meeting s t → points s ≡ 300 → points t ≡ 214 → (room : ℕ) → join_sheets s t room ≡ refused Crowded

@@ -14,12 +14,12 @@ use Rattle.sheet.specs.Bytes.{any_below}
 use Rattle.sheet.specs.Reading.{leg_outside, reach_outside, slope_outside, most_points}
 use Rattle.sheet.specs.declared.Refusal.TheVariants.{Ends, Points, Size, Leg, Reach, Slope, Page}
 use Rattle.sheet.proofs.Below.{or_left, or_right, any_none, none_any}
-use Rattle.answers.specs.Answers.{guard}
+use Rattle.answers.specs.Answers.{guard, told_count}
 use Rattle.answers.proofs.Guards.{stopped, passed, not_refused}
+use Rattle.std.specs.Prelude.{Ok}
 use Rattle.lists.specs.Lists.{Lists, kind_in, points_in, number_on, slope_count, size_of}
-use Rattle.lists.specs.Answer.{kind_outside, points_outside, counts_differ, some_leg_outside, some_reach_outside, some_slope_outside, told_written, write_numbers, write_sheet}
+use Rattle.lists.specs.Answer.{kind_outside, points_outside, counts_differ, some_leg_outside, some_reach_outside, some_slope_outside, write_numbers, write_sheet}
 use Rattle.lists.specs.Inside.{Writable}
-use Rattle.lists.specs.declared.Written.TheVariants.{Length}
 pub use Rattle.lists.proofs.Worked as worked
 
 -- a test of two counts, passed and not
@@ -36,7 +36,7 @@ apart a b h = ap not (ne_eqb a b h)
 module _ (size : ℕ) (hs : List ℕ) (ws ps : List ℤ) (room : ℕ) where
   -- what is left behind 6, 7 and 8
   abbrev pub behind_slopes : Told
-  behind_slopes = guard (ltb room size) Page (told_written (Length size))
+  behind_slopes = guard (ltb room size) Page (told_count (Ok size))
 
   abbrev pub behind_reach : Told
   behind_reach = guard (some_slope_outside ps) Slope behind_slopes
@@ -56,12 +56,12 @@ module _ (size : ℕ) (hs : List ℕ) (ws ps : List ℤ) (room : ℕ) where
       let l = not_refused (some_leg_outside hs) Leg behind_legs z in
       let r = not_refused (some_reach_outside ws) Reach behind_reach l.1 in
       let s = not_refused (some_slope_outside ps) Slope behind_slopes r.1 in
-      let p = not_refused (ltb room size) Page (told_written (Length size)) s.1 in
+      let p = not_refused (ltb room size) Page (told_count (Ok size)) s.1 in
       record { leg = l.0; reach = r.0; slope = s.0; page = p.0 }
 
-  numbers_answered : Fitting → told_written (Length size) ≡ write_numbers size hs ws ps room
+  numbers_answered : Fitting → told_count (Ok size) ≡ write_numbers size hs ws ps room
   numbers_answered f =
-      passed (ltb room size) Page (told_written (Length size)) f.page
+      passed (ltb room size) Page (told_count (Ok size)) f.page
       ∙ passed (some_slope_outside ps) Slope behind_slopes f.slope
       ∙ passed (some_reach_outside ws) Reach behind_reach f.reach
       ∙ passed (some_leg_outside hs) Leg behind_legs f.leg
@@ -95,7 +95,7 @@ module _ (c : Lists) (room : ℕ) where
       let s = not_refused (counts_differ c) Size behind_counts p.1 in
       record { kind = k.0; points = p.0; counts = s.0; numbers = numbers_fit (size_of c) c.legs c.waypoints c.slopes room s.1 }
 
-  pub answered : Unrefused → told_written (Length (size_of c)) ≡ write_sheet c room
+  pub answered : Unrefused → told_count (Ok (size_of c)) ≡ write_sheet c room
   unfolding write_sheet
   answered u =
       numbers_answered (size_of c) c.legs c.waypoints c.slopes room u.numbers

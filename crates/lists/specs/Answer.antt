@@ -1,14 +1,12 @@
 -- What writing a sheet answers (A11, G2 to G4), refused calls too. For lists, writer, join and exports.
-use Rattle.std.specs.Prelude.{Bool, not, ◌||◌, List, [], ◌∷◌, ℕ, ◌*◌, ltb, eqb, ℤ, pos, length, get_or}
+use Rattle.std.specs.Prelude.{Bool, not, ◌||◌, List, ℕ, ◌*◌, ltb, eqb, ℤ, pos, length, get_or, Ok}
 use Rattle.ends.specs.Ends.{leg_count, least_points}
-use Rattle.sheet.specs.Answers.{Told, refused}
+use Rattle.sheet.specs.Answers.{Told}
 use Rattle.sheet.specs.Bytes.{any_below}
 use Rattle.sheet.specs.Reading.{leg_outside, reach_outside, slope_outside, most_points}
 use Rattle.sheet.specs.declared.Refusal.TheVariants.{Ends, Points, Size, Leg, Reach, Slope, Page}
-use Rattle.answers.specs.Answers.{guard}
+use Rattle.answers.specs.Answers.{guard, told_count}
 use Rattle.lists.specs.Lists.{Lists, kind_in, points_in, number_on, slope_count, size_of}
-use Rattle.lists.specs.declared.Written.{Written}
-use Rattle.lists.specs.declared.Written.TheVariants.{Length, Refused}
 
 -- N3, of a kind's number of any size
 abbrev pub kind_outside : Lists → Bool
@@ -35,15 +33,10 @@ some_reach_outside ws = any_below (λ i. any_below (λ axis. reach_outside axis 
 abbrev pub some_slope_outside : List ℤ → Bool
 some_slope_outside ps = any_below (λ i. slope_outside (get_or ps i (pos 0))) (length ps)
 
--- F8: the number and values of each answer; the value is the sheet's length (A11)
-abbrev pub told_written : Written → Told
-told_written (Length n) = record { number = 0; values = pos n ∷ [] }
-told_written (Refused r) = refused r
-
 -- G3: 6 to 8 and then 14, of lists that make a sheet of `size` bytes and a slice of `room`
 abbrev pub write_numbers : ℕ → List ℕ → List ℤ → List ℤ → ℕ → Told
 write_numbers size hs ws ps room =
-    guard (some_leg_outside hs) Leg (guard (some_reach_outside ws) Reach (guard (some_slope_outside ps) Slope (guard (ltb room size) Page (told_written (Length size)))))
+    guard (some_leg_outside hs) Leg (guard (some_reach_outside ws) Reach (guard (some_slope_outside ps) Slope (guard (ltb room size) Page (told_count (Ok size)))))
 
 -- A11: the answer
 unfoldable pub write_sheet : Lists → ℕ → Told

@@ -1,10 +1,10 @@
 -- Worked lists (W12): course A, and refusals in their order.
-use Rattle.std.specs.Prelude.{◌≡◌, List, [], ◌∷◌, ◌++◌, ℕ, ℤ, pos}
+use Rattle.std.specs.Prelude.{◌≡◌, List, [], ◌∷◌, ◌++◌, ℕ, ℤ, pos, Ok}
 use Rattle.sheet.specs.Answers.{refused}
 use Rattle.sheet.specs.declared.Refusal.TheVariants.{Ends, Points, Size, Leg, Reach, Slope, Page}
+use Rattle.answers.specs.Answers.{told_count}
 use Rattle.lists.specs.Lists.{Lists, lists}
-use Rattle.lists.specs.Answer.{told_written, write_sheet}
-use Rattle.lists.specs.declared.Written.TheVariants.{Length}
+use Rattle.lists.specs.Answer.{write_sheet}
 
 -- the waypoint numbers of course A (T5), and a free course with these or others
 abbrev pub numbers_a : List ℤ
@@ -21,7 +21,7 @@ abbrev pub steep : Lists
 steep = lists 1 (2 ∷ 2 ∷ []) numbers_a (pos 5_001 ∷ pos 0 ∷ pos 0 ∷ pos 0 ∷ pos 0 ∷ pos 0 ∷ [])
 
 pub record AnswersTried : Type 0 where
-  pub length_a : write_sheet lists_a 48 ≡ told_written (Length 48)
+  pub length_a : write_sheet lists_a 48 ≡ told_count (Ok 48)
   -- into 47 bytes
   pub page : write_sheet lists_a 47 ≡ refused Page
   -- a tenth number behind the nine

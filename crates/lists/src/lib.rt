@@ -1,14 +1,8 @@
 // A course as lists, and the tests before a sheet is written from them (G1 to G4). For writer, and for calls that make sheets.
 #![tactic(auto)]
 
+mod lent;
 mod tested;
 
-use sheet::Refusal;
+pub use lent::LentLists;
 pub use tested::answer;
-
-// A11: the sheet's length, or the refusal.
-#[derive(Clone, Copy)]
-pub enum Written {
-    Length(usize),
-    Refused(Refusal),
-}

@@ -1,88 +1,45 @@
 // The tests before anything is written (G3, G4); those of one number are crate sheet's.
-ghost use Rattle.std.specs.Prelude.{◌≡◌, ◌+◌, ◌≤◌, pos, length, get_or};
+ghost use Rattle.std.specs.Prelude.{◌≡◌, pos, length, get_or};
 ghost use Rattle.sheet.specs.Bytes.{any_below};
-ghost use Rattle.sheet.specs.Reading.{leg_outside, reach_outside};
-ghost use Rattle.lists.specs.Lists.{lists, slope_count};
-ghost use Rattle.lists.specs.Answer.{some_leg_outside, some_reach_outside, some_slope_outside, told_written, write_numbers, write_sheet};
+ghost use Rattle.sheet.specs.Reading.{reach_outside};
+ghost use Rattle.answers.specs.Answers.{told_count};
+ghost use Rattle.lists.specs.Lent.{lent};
+ghost use Rattle.lists.specs.Lists.{slope_count};
+ghost use Rattle.lists.specs.Answer.{some_leg_outside, some_reach_outside, some_slope_outside, write_numbers, write_sheet};
 
-use crate::Written;
+use crate::LentLists;
 use ends::EndKind;
 use sheet::{MOST_POINTS, Refusal};
 
-// N6, of the four legs from `at` on.
-fn four_outside(legs: &[u64], at: usize) -> bool
-    requires { at + 4 ≤ length legs.now }
-    ensures { result ≡ any_below (λ k. leg_outside (get_or legs.now (at + k) 0)) 4 }
-{
-    sheet::leg_outside(legs[at])
-        | sheet::leg_outside(legs[at + 1])
-        | sheet::leg_outside(legs[at + 2])
-        | sheet::leg_outside(legs[at + 3])
-}
-
-// N6, of all legs: four a turn, which takes a third of the time, and then those that are left.
+// N6, of all legs.
 fn legs_outside(legs: &[u64]) -> bool
     ensures { result ≡ some_leg_outside legs.now }
 {
-    let count = legs.len();
-    let mut i = 0;
-    while i + 3 < count {
-        if four_outside(legs, i) {
-            return true;
-        }
-        i = i + 4;
-    }
-    while i < count {
-        if sheet::leg_outside(legs[i]) {
-            return true;
-        }
-        i = i + 1;
-    }
-    false
+    legs.iter().any(|leg| sheet::leg_outside(*leg))
 }
 
-// N7, of the waypoint whose numbers start at `at`.
-fn waypoint_outside(waypoints: &[i64], at: usize) -> bool
-    requires { at + 3 ≤ length waypoints.now }
-    ensures { result ≡ any_below (λ axis. reach_outside axis (get_or waypoints.now (at + axis) (pos 0))) 3 }
+// N7, of one waypoint: north, east and up.
+fn waypoint_outside(waypoint: &[i64]) -> bool
+    ensures { result ≡ any_below (λ axis. reach_outside axis (get_or waypoint.now axis (pos 0))) (length waypoint.now) }
 {
-    if sheet::reach_outside(0, waypoints[at]) {
-        return true;
-    }
-    if sheet::reach_outside(1, waypoints[at + 1]) {
-        return true;
-    }
-    sheet::reach_outside(2, waypoints[at + 2])
+    waypoint
+        .iter()
+        .enumerate()
+        .any(|(axis, z)| sheet::reach_outside(axis, *z))
 }
 
 // N7, of all waypoints; numbers behind the last whole waypoint are not asked.
 fn waypoints_outside(waypoints: &[i64]) -> bool
     ensures { result ≡ some_reach_outside waypoints.now }
 {
-    let count = waypoints.len() / 3;
-    let mut i = 0;
-    while i < count {
-        if waypoint_outside(waypoints, 3 * i) {
-            return true;
-        }
-        i = i + 1;
-    }
-    false
+    waypoints.chunks_exact(3).any(waypoint_outside)
 }
 
 // N8, of all slopes.
 fn slopes_outside(slopes: &[i64]) -> bool
     ensures { result ≡ some_slope_outside slopes.now }
 {
-    let count = slopes.len();
-    let mut i = 0;
-    while i < count {
-        if sheet::slope_outside(slopes[i]) {
-            return true;
-        }
-        i = i + 1;
-    }
-    false
+    slopes.iter().any(|slope| sheet::slope_outside(*slope))
 }
 
 // S8: how many slopes a kind has.
@@ -97,54 +54,45 @@ fn slope_count(kind: EndKind) -> usize
 }
 
 // 6 to 8, then 14, of lists that make a sheet of `size` bytes.
-fn answer_numbers(
-    size: usize,
-    legs: &[u64],
-    waypoints: &[i64],
-    slopes: &[i64],
-    room: usize,
-) -> Written
-    ensures { told_written result ≡ write_numbers size legs.now waypoints.now slopes.now room }
+fn answer_numbers(size: usize, course: &LentLists<'_>, room: usize) -> Result<usize, Refusal>
+    ensures { told_count result ≡ write_numbers size course.now.legs.now course.now.waypoints.now course.now.slopes.now room }
 {
-    if legs_outside(legs) {
-        return Written::Refused(Refusal::Leg);
+    if legs_outside(course.legs) {
+        return Err(Refusal::Leg);
     }
-    if waypoints_outside(waypoints) {
-        return Written::Refused(Refusal::Reach);
+    if waypoints_outside(course.waypoints) {
+        return Err(Refusal::Reach);
     }
-    if slopes_outside(slopes) {
-        return Written::Refused(Refusal::Slope);
+    if slopes_outside(course.slopes) {
+        return Err(Refusal::Slope);
     }
     if room < size {
-        return Written::Refused(Refusal::Page);
+        return Err(Refusal::Page);
     }
-    Written::Length(size)
+    Ok(size)
 }
 
 // The answer of writing into `room` bytes: 3 to 5 here, then the numbers.
-pub fn answer(kind: u64, legs: &[u64], waypoints: &[i64], slopes: &[i64], room: usize) -> Written
-    ensures { told_written result ≡ write_sheet (lists kind legs.now waypoints.now slopes.now) room }
+pub fn answer(course: &LentLists<'_>, room: usize) -> Result<usize, Refusal>
+    ensures { told_count result ≡ write_sheet (lent course.now) room }
 {
-    if 2 < kind {
-        return Written::Refused(Refusal::Ends);
-    }
-    let ends = sheet::kind_of(kind as u8);
-    let count = waypoints.len();
+    let kind = EndKind::try_from(course.kind)?;
+    let count = course.waypoints.len();
     let n = count / 3;
-    if n < ends::least_points(ends) {
-        return Written::Refused(Refusal::Points);
+    if n < ends::least_points(kind) {
+        return Err(Refusal::Points);
     }
     if MOST_POINTS < n {
-        return Written::Refused(Refusal::Points);
+        return Err(Refusal::Points);
     }
     if count != 3 * n {
-        return Written::Refused(Refusal::Size);
+        return Err(Refusal::Size);
     }
-    if legs.len() != ends::leg_count(ends, n) {
-        return Written::Refused(Refusal::Size);
+    if course.legs.len() != ends::leg_count(kind, n) {
+        return Err(Refusal::Size);
     }
-    if slopes.len() != slope_count(ends) {
-        return Written::Refused(Refusal::Size);
+    if course.slopes.len() != slope_count(kind) {
+        return Err(Refusal::Size);
     }
-    answer_numbers(sheet::sheet_length(ends, n), legs, waypoints, slopes, room)
+    answer_numbers(sheet::sheet_length(kind, n), course, room)
 }

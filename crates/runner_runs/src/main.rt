@@ -5,254 +5,229 @@
 
 ghost use Rattle.std.specs.Prelude.{◌≤◌, length};
 
-use answers::Outcome;
-use runner::{Runner, RunnerAnswer, RunnerOutcome, back_record, runner_at_tick, step_record};
+use runner::{Runner, back, runner_at_tick, step};
 use sheet::Refusal;
+use std::fmt::{self, Display, Formatter};
 use std::io;
+use std::ops::Range;
 
-const LAST: u64 = 18446744073709551615;
+const LAST: u64 = u64::MAX;
 
-fn print(rt: &impl Print, text: &str) -> io::Result<()> {
-    rt.print(text)
-}
+// The runner that is answered, or the refusal, in words.
+#[derive(Clone, Copy)]
+struct Answer(Result<Runner, Refusal>);
 
-fn print_refusal(rt: &impl Print, refusal: Refusal) -> io::Result<()> {
-    match refusal {
-        Refusal::Torn => print(rt, "torn"),
-        Refusal::Past => print(rt, "past"),
-        Refusal::Adrift => print(rt, "adrift"),
-        Refusal::Landed => print(rt, "landed"),
-        Refusal::Start => print(rt, "start"),
-        _ => print(rt, "refused"),
+impl Display for Answer {
+    fn fmt<W: fmt::Write>(&self, f: &mut Formatter<W>) -> fmt::Result {
+        let text = match self.0 {
+            Ok(at) => return write!(f, "leg {} offset {} laps {}", at.leg, at.offset, at.laps),
+            Err(Refusal::Torn) => "torn",
+            Err(Refusal::Past) => "past",
+            Err(Refusal::Adrift) => "adrift",
+            Err(Refusal::Landed) => "landed",
+            Err(Refusal::Start) => "start",
+            Err(_) => "refused",
+        };
+        f.write_str(text)
     }
 }
 
-fn print_runner(rt: &impl Print, at: Runner) -> io::Result<()> {
-    print!(rt; "leg {} offset {} laps {}", at.leg, at.offset, at.laps)
+// A runner that may be anywhere.
+fn at(leg: u64, offset: u64, laps: u64) -> Runner {
+    Runner { leg, offset, laps }
 }
 
-fn print_answer(rt: &impl Print, answer: RunnerAnswer) -> io::Result<()> {
-    match answer {
-        RunnerAnswer::At(r) => print_runner(rt, r)?,
-        RunnerAnswer::Refused(refusal) => print_refusal(rt, refusal)?,
+// A sheet, and the name that its lines begin with.
+#[derive(Clone, Copy)]
+struct Course<'a> {
+    name: &'a str,
+    s: &'a [u8],
+}
+
+impl Course<'_> {
+    fn show_tick(&self, rt: &impl Print, tick: u64) -> io::Result<()> {
+        let answer = Answer(runner_at_tick(self.s, tick));
+        println!(rt; "{} tick {tick}: {answer}", self.name)
     }
-    println!(rt)
-}
 
-fn show_tick(rt: &impl Print, name: &str, s: &[u8], tick: u64) -> io::Result<()> {
-    print!(rt; "{name} tick {tick}: ")?;
-    print_answer(rt, runner_at_tick(s, tick))
-}
-
-// Ticks of a course from one on, up to another.
-fn show_ticks(rt: &impl Print, name: &str, s: &[u8], from: u64, till: u64) -> io::Result<()> {
-    for tick in from..till {
-        show_tick(rt, name, s, tick)?;
+    fn show_ticks(&self, rt: &impl Print, ticks: Range<u64>) -> io::Result<()> {
+        for tick in ticks {
+            self.show_tick(rt, tick)?;
+        }
+        Ok(())
     }
-    Ok(())
-}
 
-// A step or a back of a runner that may be anywhere.
-fn show_move(
-    rt: &impl Print,
-    name: &str,
-    s: &[u8],
-    is_step: bool,
-    leg: u64,
-    offset: u64,
-    laps: u64,
-) -> io::Result<Runner> {
-    print(rt, name)?;
-    if is_step {
-        print(rt, " from ")?;
-    } else {
-        print(rt, " back from ")?;
+    // A move of one sort; a refused one leaves the runner where it stands.
+    fn show_move<F: Fn(&[u8], &mut Runner) -> Result<(), Refusal>>(
+        &self,
+        rt: &impl Print,
+        from: &str,
+        go: F,
+        start: Runner,
+    ) -> io::Result<Runner>
+        requires { F.IsAlwaysCallable go }
+    {
+        let mut at = start;
+        let done = go(self.s, &mut at);
+        let answer = Answer(done.and(Ok(at)));
+        let Runner { leg, offset, laps } = start;
+        println!(rt; "{}{from}{leg} {offset} {laps}: {answer}", self.name)?;
+        Ok(at)
     }
-    print!(rt; "{leg} {offset} {laps}: ")?;
-    let at = Runner { leg, offset, laps };
-    let after = if is_step {
-        step_record(s, at)
-    } else {
-        back_record(s, at)
-    };
-    let outcome = after.outcome;
-    match outcome {
-        Outcome::Done => print_runner(rt, after.at)?,
-        Outcome::Refused(refusal) => print_refusal(rt, refusal)?,
+
+    // (Closures here and below: of a function of another crate, passed by its name, the check finds no contract.)
+    fn show_step(&self, rt: &impl Print, start: Runner) -> io::Result<Runner> {
+        self.show_move(rt, " from ", |s, at| step(s, at), start)
     }
-    println!(rt)?;
-    Ok(after.at)
-}
 
-// Moves of one sort from a runner. A refused one leaves it where it stands.
-fn show_moves(
-    rt: &impl Print,
-    name: &str,
-    s: &[u8],
-    is_step: bool,
-    count: u64,
-    start: Runner,
-) -> io::Result<Runner> {
-    let mut leg = start.leg;
-    let mut offset = start.offset;
-    let mut laps = start.laps;
-    for _ in 0..count {
-        let at = show_move(rt, name, s, is_step, leg, offset, laps)?;
-        leg = at.leg;
-        offset = at.offset;
-        laps = at.laps;
+    fn show_back(&self, rt: &impl Print, start: Runner) -> io::Result<Runner> {
+        self.show_move(rt, " back from ", |s, at| back(s, at), start)
     }
-    Ok(Runner { leg, offset, laps })
-}
 
-// Steps from a runner, and then backs.
-fn show_steps(
-    rt: &impl Print,
-    name: &str,
-    s: &[u8],
-    start: Runner,
-    steps: u64,
-    backs: u64,
-) -> io::Result<()> {
-    let end = show_moves(rt, name, s, true, steps, start)?;
-    show_moves(rt, name, s, false, backs, end)?;
-    Ok(())
-}
-
-// At the first waypoint with no lap flown.
-fn first() -> Runner {
-    Runner {
-        leg: 0,
-        offset: 0,
-        laps: 0,
+    // Steps from a runner, and then backs.
+    fn show_flight(
+        &self,
+        rt: &impl Print,
+        start: Runner,
+        steps: u64,
+        backs: u64,
+    ) -> io::Result<()> {
+        let mut at = start;
+        for _ in 0..steps {
+            at = self.show_step(rt, at)?;
+        }
+        for _ in 0..backs {
+            at = self.show_back(rt, at)?;
+        }
+        Ok(())
     }
 }
 
 // Free, legs 2 and 3; and the same sheet with its last byte missing.
 fn run_free(rt: &impl Print) -> io::Result<()> {
     let mut s = [0u8; 48];
-    s[3] = 48;
-    s[4] = 1;
-    s[7] = 3;
-    s[9] = 2;
-    s[11] = 3;
-    show_ticks(rt, "free", &s, 0, 7)?;
-    show_steps(rt, "free", &s, first(), 8, 7)?;
-    show_move(rt, "free", &s, true, 0, 2, 0)?;
-    show_move(rt, "free", &s, true, 1, 4, 0)?;
-    show_move(rt, "free", &s, true, 2, 0, 0)?;
-    show_move(rt, "free", &s, true, 0, LAST, 0)?;
-    show_move(rt, "free", &s, true, LAST, LAST, 0)?;
-    show_move(rt, "free", &s, false, 0, 2, 0)?;
-    show_move(rt, "free", &s, false, 2, 0, 0)?;
-    show_move(rt, "free", &s, false, 0, LAST, 0)?;
-    show_move(rt, "free", &s, true, 0, 0, 1)?;
-    show_move(rt, "free", &s, true, 1, 3, LAST)?;
-    show_move(rt, "free", &s, false, 0, 0, 1)?;
-    show_move(rt, "free", &s, false, 1, 1, LAST)?;
-    show_tick(rt, "torn", &s[..47], 0)?;
-    show_move(rt, "torn", &s[..47], true, LAST, LAST, LAST)?;
-    show_move(rt, "torn", &s[..47], false, 0, 0, 0)?;
+    s[..12].copy_from_slice(&[0, 0, 0, 48, 1, 0, 0, 3, 0, 2, 0, 3]);
+    let course = Course {
+        name: "free",
+        s: &s,
+    };
+    course.show_ticks(rt, 0..7)?;
+    course.show_flight(rt, at(0, 0, 0), 8, 7)?;
+    for start in [
+        at(0, 2, 0),
+        at(1, 4, 0),
+        at(2, 0, 0),
+        at(0, LAST, 0),
+        at(LAST, LAST, 0),
+    ] {
+        course.show_step(rt, start)?;
+    }
+    for start in [at(0, 2, 0), at(2, 0, 0), at(0, LAST, 0)] {
+        course.show_back(rt, start)?;
+    }
+    for start in [at(0, 0, 1), at(1, 3, LAST)] {
+        course.show_step(rt, start)?;
+    }
+    for start in [at(0, 0, 1), at(1, 1, LAST)] {
+        course.show_back(rt, start)?;
+    }
+    let torn = Course {
+        name: "torn",
+        s: &s[..47],
+    };
+    torn.show_tick(rt, 0)?;
+    torn.show_step(rt, at(LAST, LAST, LAST))?;
+    torn.show_back(rt, at(0, 0, 0))?;
     Ok(())
 }
 
 // Held, one leg of 4.
 fn run_held(rt: &impl Print) -> io::Result<()> {
     let mut s = [0u8; 58];
-    s[3] = 58;
-    s[4] = 1;
-    s[5] = 1;
-    s[7] = 2;
-    s[9] = 4;
-    show_ticks(rt, "held", &s, 0, 6)?;
-    show_tick(rt, "held", &s, LAST)?;
-    show_steps(rt, "held", &s, first(), 7, 6)?;
-    show_move(rt, "held", &s, true, 0, 0, 1)?;
+    s[..10].copy_from_slice(&[0, 0, 0, 58, 1, 1, 0, 2, 0, 4]);
+    let course = Course {
+        name: "held",
+        s: &s,
+    };
+    course.show_ticks(rt, 0..6)?;
+    course.show_tick(rt, LAST)?;
+    course.show_flight(rt, at(0, 0, 0), 7, 6)?;
+    course.show_step(rt, at(0, 0, 1))?;
     Ok(())
 }
 
 // Closed, four legs of 2.
 fn run_even(rt: &impl Print) -> io::Result<()> {
     let mut s = [0u8; 64];
-    s[3] = 64;
-    s[4] = 1;
-    s[5] = 2;
-    s[7] = 4;
-    s[9] = 2;
-    s[11] = 2;
-    s[13] = 2;
-    s[15] = 2;
-    show_ticks(rt, "even", &s, 0, 10)?;
-    show_tick(rt, "even", &s, LAST)?;
-    show_steps(rt, "even", &s, first(), 25, 27)?;
-    show_move(rt, "even", &s, true, 3, 2, 0)?;
-    show_move(rt, "even", &s, true, 4, 0, 0)?;
-    show_move(rt, "even", &s, true, LAST, 0, 0)?;
-    show_move(rt, "even", &s, false, 3, 2, 0)?;
-    show_move(rt, "even", &s, false, LAST, 0, 0)?;
-    show_move(rt, "even", &s, true, 4, 0, LAST)?;
-    // up to the largest count, round once more with it, and back
-    let late = Runner {
-        leg: 3,
-        offset: 0,
-        laps: LAST - 1,
+    s[..16].copy_from_slice(&[0, 0, 0, 64, 1, 2, 0, 4, 0, 2, 0, 2, 0, 2, 0, 2]);
+    let course = Course {
+        name: "even",
+        s: &s,
     };
-    show_steps(rt, "even", &s, late, 11, 12)?;
-    show_move(rt, "even", &s, false, 0, 1, LAST)?;
+    course.show_ticks(rt, 0..10)?;
+    course.show_tick(rt, LAST)?;
+    course.show_flight(rt, at(0, 0, 0), 25, 27)?;
+    for start in [at(3, 2, 0), at(4, 0, 0), at(LAST, 0, 0)] {
+        course.show_step(rt, start)?;
+    }
+    for start in [at(3, 2, 0), at(LAST, 0, 0)] {
+        course.show_back(rt, start)?;
+    }
+    course.show_step(rt, at(4, 0, LAST))?;
+    // up to the largest count, round once more with it, and back
+    course.show_flight(rt, at(3, 0, LAST - 1), 11, 12)?;
+    course.show_back(rt, at(0, 1, LAST))?;
     Ok(())
 }
 
 // Closed, legs 1, 3 and 2.
 fn run_mixed(rt: &impl Print) -> io::Result<()> {
     let mut s = [0u8; 50];
-    s[3] = 50;
-    s[4] = 1;
-    s[5] = 2;
-    s[7] = 3;
-    s[9] = 1;
-    s[11] = 3;
-    s[13] = 2;
-    show_ticks(rt, "mixed", &s, 0, 8)?;
-    show_tick(rt, "mixed", &s, LAST)?;
-    show_steps(rt, "mixed", &s, first(), 19, 21)
+    s[..14].copy_from_slice(&[0, 0, 0, 50, 1, 2, 0, 3, 0, 1, 0, 3, 0, 2]);
+    let course = Course {
+        name: "mixed",
+        s: &s,
+    };
+    course.show_ticks(rt, 0..8)?;
+    course.show_tick(rt, LAST)?;
+    course.show_flight(rt, at(0, 0, 0), 19, 21)
 }
 
 // The legs 1, 2, .., as many as are asked for.
-fn put_rising(s: &mut [u8], legs: usize)
+fn put_rising(s: &mut [u8], legs: u8)
     requires { (legs ≤ 19) × (46 ≤ length s.old) }
 {
-    let mut h = 0;
-    while h < legs {
-        h = h + 1;
-        s[7 + 2 * h] = h as u8;
+    for h in 1..=legs {
+        s[7 + 2 * h as usize] = h;
     }
 }
 
 // Rising legs, free: 18 of them, with a kept sum at leg 16 (W17).
 fn run_rising(rt: &impl Print) -> io::Result<()> {
     let mut s = [0u8; 272];
+    s[..8].copy_from_slice(&[0, 0, 1, 16, 1, 0, 0, 19]);
     put_rising(&mut s, 18);
-    s[2] = 1;
-    s[3] = 16;
-    s[4] = 1;
-    s[7] = 19;
-    show_ticks(rt, "rising", &s, 134, 138)?;
-    show_ticks(rt, "rising", &s, 152, 154)?;
-    show_ticks(rt, "rising", &s, 170, 173)
+    let course = Course {
+        name: "rising",
+        s: &s,
+    };
+    course.show_ticks(rt, 134..138)?;
+    course.show_ticks(rt, 152..154)?;
+    course.show_ticks(rt, 170..173)
 }
 
 // Closed: with one leg more, and round.
 fn run_rising_round(rt: &impl Print) -> io::Result<()> {
     let mut s = [0u8; 274];
+    s[..8].copy_from_slice(&[0, 0, 1, 18, 1, 2, 0, 19]);
     put_rising(&mut s, 19);
-    s[2] = 1;
-    s[3] = 18;
-    s[4] = 1;
-    s[5] = 2;
-    s[7] = 19;
-    show_ticks(rt, "rising, closed", &s, 189, 192)?;
-    show_ticks(rt, "rising, closed", &s, 325, 327)?;
-    show_tick(rt, "rising, closed", &s, LAST)
+    let course = Course {
+        name: "rising, closed",
+        s: &s,
+    };
+    course.show_ticks(rt, 189..192)?;
+    course.show_ticks(rt, 325..327)?;
+    course.show_tick(rt, LAST)
 }
 
 fn main(rt: HostRuntime) -> io::Result<()> {

@@ -1,12 +1,13 @@
 -- A number and its bytes, both ways: what is written is read back, and what is read is written again. For Sections and crate written.
-use mathlib.Core.Path.{◌≡◌, sym, ap, ◌∙◌}
-use mathlib.Core.List.{List, ◌∷◌, ◌++◌}
-use Prim.Native.Nat.{ℕ, ◌+◌, ◌-◌, ◌/◌, ◌%◌, ◌≤◌, ◌<◌}
+use mathlib.Core.Path.{◌≡◌, refl, sym, ap, ◌∙◌}
+use mathlib.Core.List.{List, [], ◌∷◌, ◌++◌}
+use Prim.Native.Nat.{ℕ, suc, ◌+◌, ◌-◌, ◌/◌, ◌%◌, ◌≤◌, ◌<◌}
 use native.Mathlib.Numerals.{add-one}
 use native.Mathlib.Omega.{arith}
 use lib.IntN.{ℤ, pos, negsuc, nat_abs}
 use lib.ListN.{length, drop}
 use lib.Seq.{drop-cons}
+use Rattle.std.specs.Int.{w64, cast_unsigned, bytes_high_first}
 use Rattle.integers.proofs.Order.{le_or_lt}
 use Rattle.sheet.specs.Bytes.{byte, be16, be32, signed32}
 use Rattle.sheet.proofs.Numbers.{signed_low, signed_high}
@@ -26,6 +27,15 @@ bits_signed x h =
 pub bits_small : (z : ℤ) → nat_abs z < 2147483648 → bits32 z < 4294967296
 bits_small (pos n) h = omega arith
 bits_small (negsuc n) h = omega arith
+
+-- the lowest four of a machine number's eight bytes are those of its 32 bits
+pub low_bits : (z : ℤ) → nat_abs z < 2147483648 → bytes_high_first 4 (cast_unsigned w64 z) ≡ number_bytes z
+low_bits (pos n) h = refl
+low_bits (negsuc n) h =
+    let x = 18446744073709551616 - suc n in let y = 4294967295 - n in
+    let a : x / 16_777_216 % 256 ≡ y / 16_777_216 % 256 = omega arith in let b : x / 65_536 % 256 ≡ y / 65_536 % 256 = omega arith in
+    let c : x / 256 % 256 ≡ y / 256 % 256 = omega arith in let d : x % 256 ≡ y % 256 = omega arith in
+    (λ i. a i ∷ b i ∷ c i ∷ d i ∷ [])
 
 -- ---- the bytes of n stand at a place: it is read there
 module _ (s : List ℕ) where

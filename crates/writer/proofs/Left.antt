@@ -9,13 +9,14 @@ use lib.ListN.{length, drop}
 use Rattle.sheet.specs.Answers.{Told, refused}
 use Rattle.sheet.specs.declared.Refusal.{Refusal}
 use Rattle.answers.proofs.Guards.{done_changes, refused_keeps}
+use Rattle.answers.specs.Answers.{told_count}
+use Rattle.std.specs.Prelude.{Ok}
 use Rattle.lists.specs.Lists.{Lists, size_of}
 use Rattle.writer.specs.Sheets.{written_sheet}
-use Rattle.lists.specs.Answer.{told_written, write_sheet}
+use Rattle.lists.specs.Answer.{write_sheet}
 use Rattle.writer.specs.Writing.{written_into}
 use Rattle.lists.specs.Inside.{Writable}
 use Rattle.writer.specs.Inside.{over}
-use Rattle.lists.specs.declared.Written.TheVariants.{Length}
 use Rattle.writer.proofs.Parts.{long}
 pub use Rattle.writer.proofs.Worked as worked
 use Rattle.lists.proofs.Tests.{Unrefused, unrefused, answered, writable}
@@ -28,7 +29,7 @@ module _ (c : Lists) (out : List ℕ) where
   unfolding written_into
   left_refused r e = sym (refused_keeps (write_sheet c (length out)) new out r e)
 
-  module _ (n : ℕ) (e : told_written (Length n) ≡ write_sheet c (length out)) where
+  module _ (n : ℕ) (e : told_count (Ok n) ≡ write_sheet c (length out)) where
     done : (write_sheet c (length out)).number ≡ 0
     done = sym (ap (λ (t : Told). t.number) e)
 
@@ -40,7 +41,7 @@ module _ (c : Lists) (out : List ℕ) where
 
     pub is_size : n ≡ size_of c
     is_size =
-        let whole : told_written (Length n) ≡ told_written (Length (size_of c)) = e ∙ sym (answered c (length out) passes) in
+        let whole : told_count (Ok n) ≡ told_count (Ok (size_of c)) = e ∙ sym (answered c (length out) passes) in
         let values = ap (λ (t : Told). t.values) whole in cc
 
     pub has_room : size_of c ≤ length out

@@ -1,12 +1,13 @@
--- Bytes put over a slice's from a place on (specs/Inside): stores one by one, one run of bytes behind another, and a copied part. For the proofs of put, here and in join.
-use mathlib.Core.Path.{◌≡◌, sym, ap, ◌∙◌}
-use mathlib.Core.List.{List, [], ◌∷◌, ◌++◌, append_assoc, append-nil}
-use Prim.Native.Nat.{ℕ, suc, ◌+◌, ◌≤◌}
-use native.Mathlib.Nat.{add-zero}
-use native.Mathlib.Numerals.{add-one}
+-- Bytes put over a slice's from a place on (specs/Inside): one run of bytes behind another, a copied part; and the lowest bytes of a number. For the proofs of put, here and in join.
+use mathlib.Core.Path.{◌≡◌, refl, sym, ap, ◌∙◌}
+use mathlib.Core.List.{List, [], ◌++◌, append_assoc, append-nil}
+use Prim.Native.Nat.{ℕ, zero, suc, ◌+◌, ◌-◌, ◌≤◌}
+use native.Mathlib.Nat.{add-zero, zero-add}
 use native.Mathlib.Omega.{arith}
-use lib.ListN.{length, take, drop, set, length-append, length-drop, take-append-drop}
-use lib.Seq.{sets-eq, take_at, drop_at, drop-drop, length-take-le}
+use lib.ListN.{length, take, drop, length-append, length-drop, take-append-drop}
+use lib.Seq.{take_at, drop_at, drop-drop, length-take-le}
+use Rattle.std.proofs.lemmas.List.{take_all}
+use Rattle.std.specs.Int.{bytes_high_first}
 use Rattle.writer.specs.Inside.{over}
 
 module _ (l : List ℕ) (at : ℕ) where
@@ -50,14 +51,17 @@ module _ (s : List ℕ) (from : ℕ) (l : List ℕ) (at k : ℕ) {i j : ℕ} (is
       (λ z. take at l ++ (whole z ++ (drop-drop j at l ∙ ap (λ n. drop n l) end) z))
       ∙ sym (append_assoc (take at l) (take k (drop from s)) (drop (at + length (take k (drop from s))) l))
 
--- ---- stores
-pub two_stored : (a b : ℕ) (l : List ℕ) (at : ℕ) → at + 2 ≤ length l → set (set l at a) (at + 1) b ≡ over (a ∷ b ∷ []) at l
-unfolding over
-two_stored a b l at h = ap (λ k. set (set l at a) k b) (add-one at) ∙ sets-eq (a ∷ b ∷ []) l at h
+-- ---- the lowest bytes of a number
+pub length_high : (k x : ℕ) → length (bytes_high_first k x) ≡ k
+length_high zero x = refl
+length_high (suc k) x = ap suc (length_high k x)
 
-pub four_stored : (a b c d : ℕ) (l : List ℕ) (at : ℕ) → at + 4 ≤ length l
-    → set (set (set (set l at a) (at + 1) b) (at + 2) c) (at + 3) d ≡ over (a ∷ b ∷ c ∷ d ∷ []) at l
-unfolding over
-four_stored a b c d l at h =
-    let one : at + 1 ≡ suc at = omega arith in let two : at + 2 ≡ suc (suc at) = omega arith in let three : at + 3 ≡ suc (suc (suc at)) = omega arith in
-    (λ i. set (set (set (set l at a) (one i) b) (two i) c) (three i) d) ∙ sets-eq (a ∷ b ∷ c ∷ d ∷ []) l at h
+end_high : (j k x : ℕ) → drop j (bytes_high_first (j + k) x) ≡ bytes_high_first k x
+end_high zero k x = ap (λ n. bytes_high_first n x) (zero-add k)
+end_high (suc j) k x = let e : suc j + k ≡ suc (j + k) = omega arith in ap (λ n. drop (suc j) (bytes_high_first n x)) e ∙ end_high j k x
+
+pub low_bytes : (k x : ℕ) → k ≤ 8 → take k (drop (8 - k) (bytes_high_first 8 x)) ≡ bytes_high_first k x
+low_bytes k x few =
+    let all : 8 ≡ 8 - k + k = omega arith in
+    ap (take k) (ap (λ n. drop (8 - k) (bytes_high_first n x)) all ∙ end_high (8 - k) k x)
+    ∙ take_all k (bytes_high_first k x) (omega (arith, length_high k x))

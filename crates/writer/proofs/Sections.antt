@@ -28,6 +28,12 @@ flat_next f l i d h = sym (
     ap (λ k. flat_map f (take k l)) (add-one i) ∙ ap (flat_map f) (take-suc l i d h)
     ∙ flat_append f (take i l) (get_or l i d ∷ []) ∙ ap (λ r. flat_map f (take i l) ++ r) (append-nil (f (get_or l i d))))
 
+-- ---- two functions that write each element alike
+pub flat_same : {A : Type 0} (f g : A → List ℕ) (l : List A) (d : A) → ((i : ℕ) → i < length l → f (get_or l i d) ≡ g (get_or l i d)) → flat_map f l ≡ flat_map g l
+unfolding flat_map
+flat_same f g [] d h = refl
+flat_same f g (x ∷ l) d h = (λ z. h 0 (omega arith) z ++ flat_same f g l d (λ i k. h (suc i) (omega arith)) z)
+
 module _ {A : Type 0} (f : A → List ℕ) (w : ℕ) (wide : (x : A) → length (f x) ≡ w) where
   pub flat_length : (l : List A) → length (flat_map f l) ≡ w * length l
   unfolding flat_map

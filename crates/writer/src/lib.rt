@@ -4,12 +4,14 @@
 mod put;
 
 ghost use Rattle.std.specs.Prelude.{◌≡◌, length};
+ghost use Rattle.answers.specs.Answers.{told_count};
 ghost use Rattle.lists.specs.Lists.{lists};
-ghost use Rattle.lists.specs.Answer.{told_written, write_sheet};
+ghost use Rattle.lists.specs.Answer.{write_sheet};
 ghost use Rattle.writer.specs.Writing.{written_into};
 
-use lists::Written;
+use lists::LentLists;
 pub use put::{copy_part, put_head};
+use sheet::Refusal;
 
 // Writes the sheet of the lists at the slice's front (G1). Tests 3 to 8, then 14; a refused call leaves the slice as it is.
 pub fn write(
@@ -18,16 +20,17 @@ pub fn write(
     waypoints: &[i64],
     slopes: &[i64],
     sheet: &mut [u8],
-) -> Written
-    ensures answer { told_written result ≡ write_sheet (lists kind legs.now waypoints.now slopes.now) (length sheet.old) }
+) -> Result<usize, Refusal>
+    ensures answer { told_count result ≡ write_sheet (lists kind legs.now waypoints.now slopes.now) (length sheet.old) }
     ensures sheet { sheet.new ≡ written_into (lists kind legs.now waypoints.now slopes.now) sheet.old }
 {
-    let answer = lists::answer(kind, legs, waypoints, slopes, sheet.len());
-    match answer {
-        Written::Length(size) => {
-            put::put_sheet(kind, size, legs, waypoints, slopes, sheet);
-            Written::Length(size)
-        }
-        Written::Refused(r) => Written::Refused(r),
-    }
+    let course = LentLists {
+        kind,
+        legs,
+        waypoints,
+        slopes,
+    };
+    let size = lists::answer(&course, sheet.len())?;
+    put::put_sheet(&course, size, sheet);
+    Ok(size)
 }

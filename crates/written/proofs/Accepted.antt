@@ -20,12 +20,13 @@ use Rattle.sheet.proofs.Below.{or_right, none_any}
 use Rattle.sheet.proofs.ByKind.{least_two, held_longest}
 use Rattle.sheet.proofs.Laws.{passing_accepted}
 use Rattle.answers.proofs.Guards.{done_changes}
+use Rattle.answers.specs.Answers.{told_count}
+use Rattle.std.specs.Prelude.{Ok}
 use Rattle.lists.specs.Lists.{Lists, lists, kind_in, points_in, number_on, slope_count, size_of, list_below, lists_of}
 use Rattle.writer.specs.Sheets.{written_sheet}
-use Rattle.lists.specs.Answer.{told_written, write_sheet}
+use Rattle.lists.specs.Answer.{write_sheet}
 use Rattle.writer.specs.Writing.{written_into}
 use Rattle.lists.specs.Inside.{Writable}
-use Rattle.lists.specs.declared.Written.TheVariants.{Length}
 use Rattle.writer.proofs.Bytes.{read_two, read_four}
 use Rattle.writer.proofs.Parts.{head, leg_part, waypoint_part, slope_part, length_legs, length_waypoints, cut_waypoints, cut_slopes, long, number_small, slope_small}
 use Rattle.writer.proofs.Sections.{leg_written, number_written}
@@ -142,8 +143,8 @@ module _ (c : Lists) (w : Writable c) where
 
   -- ---- the answer and the slice, where there is room
   module _ (out : List ℕ) (room : size_of c ≤ length out) where
-    told : write_sheet c (length out) ≡ told_written (Length (length s))
-    told = sym (answered c (length out) (nothing_applies c (length out) w room)) ∙ ap (λ n. told_written (Length n)) (sym (long c w))
+    told : write_sheet c (length out) ≡ told_count (Ok (length s))
+    told = sym (answered c (length out) (nothing_applies c (length out) w room)) ∙ ap (λ n. told_count (Ok n)) (sym (long c w))
 
     left : written_into c out ≡ s ++ drop (length s) out
     unfolding written_into

@@ -14,10 +14,10 @@ use Rattle.sheet.specs.Theorems.{Bounds}
 use Rattle.sheet.specs.declared.Refusal.TheVariants.{Torn, Edition}
 use Rattle.sheet.proofs.Below.{or_right}
 use Rattle.sheet.proofs.Laws.{accepted_bounds}
+use Rattle.answers.specs.Answers.{told_count}
+use Rattle.std.specs.Prelude.{Ok}
 use Rattle.lists.specs.Lists.{Lists, slope_count, list_below, lists_of}
 use Rattle.writer.specs.Sheets.{bytes16, bytes32, number_bytes, head_bytes, body_bytes, written_sheet}
-use Rattle.lists.specs.Answer.{told_written}
-use Rattle.lists.specs.declared.Written.TheVariants.{Length}
 use Rattle.writer.proofs.Bytes.{next, two_again, four_again, number_again}
 use Rattle.writer.proofs.Parts.{slope_size}
 use Rattle.writer.proofs.Sections.{section_again}
@@ -84,7 +84,7 @@ module _ (s : List ℕ) (small : (i : ℕ) → byte s i < 256) (a : Accepted s) 
   pub alike : WrittenAlike s
   alike = record {
     same = same;
-    answered = λ room h. sym (answered c room (nothing_applies c room (writable_lists s a) (omega (arith, size_is s a)))) ∙ ap (λ n. told_written (Length n)) (size_is s a);
+    answered = λ room h. sym (answered c room (nothing_applies c room (writable_lists s a) (omega (arith, size_is s a)))) ∙ ap (λ n. told_count (Ok n)) (size_is s a);
   }
 
 pub written_again : WrittenAgain

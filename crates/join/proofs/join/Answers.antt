@@ -12,9 +12,9 @@ use Rattle.sheet.specs.declared.Reading.TheVariants.{Course}
 use Rattle.sheet.specs.declared.Refusal.TheVariants.{Page, Shut, Apart, Crowded}
 use Rattle.sheet.proofs.Laws.{course_read}
 use Rattle.answers.proofs.Guards.{passed_on}
+use Rattle.answers.specs.Answers.{told_count}
+use Rattle.std.specs.Prelude.{Ok}
 use Rattle.lists.specs.Lists.{points_in, size_of}
-use Rattle.lists.specs.Answer.{told_written}
-use Rattle.lists.specs.declared.Written.TheVariants.{Length}
 use Rattle.join.specs.Joining.{is_shut, shut, crowded, joined_lists, join_sheets}
 use Rattle.join.specs.Inside.{BothFree}
 use Rattle.join.proofs.Course.{bounds, count_joined}
@@ -126,7 +126,7 @@ returns c =
     let f = both (goal.at.returns c).Else-is_shut in
     let size = is_size f c.sheet_length-size.ensures in
     let answer =
-    ap (λ (n : ℕ). told_written (Length n)) size
+    ap (λ (n : ℕ). told_count (Ok n)) size
     ∙ all_passed s t (length out) f.first f.second (not_shut f) (sym c.is_apart.ensures ∙ c.if-is_apart.false) (few f (omega arith))
     (le-ltb (length out) (size_of (joined_lists s t)) (omega arith)) in
     record { answer = answer; sheet = c.put_joined.ensures ∙ left_joined s t out (sym (ap (λ (x : Told). x.number) answer)) }

@@ -6,14 +6,14 @@ use Rattle.writer.proofs.write.Goals as goal
 
 pub put_sheet-requires : goal.put_sheet-requires
 put_sheet-requires c =
-    let a = c.args in let l = lists a.kind a.legs.now a.waypoints.now a.slopes.now in let o = a.sheet.now in let e = c.in-Length.ensures in
-    (is_writable l o _ e, is_size l o _ e, omega (arith, is_size l o _ e, has_room l o _ e))
+    let a = c.args in let l = lists a.kind a.legs.now a.waypoints.now a.slopes.now in let o = a.sheet.now in let n = c.in_ok-size.size in
+    let e = c.in_ok-size.ensures in (is_writable l o n e, is_size l o n e, omega (arith, is_size l o n e, has_room l o n e))
 
-pub returns-in-Length-clause-sheet : goal.returns-in-Length-clause-sheet
-returns-in-Length-clause-sheet c =
+pub returns-clause-sheet : goal.returns-clause-sheet
+returns-clause-sheet c =
     let a = c.args in
-    c.put_sheet.ensures ∙ left_written (lists a.kind a.legs.now a.waypoints.now a.slopes.now) a.sheet.now _ c.in-Length.ensures
+    c.put_sheet.ensures ∙ left_written (lists a.kind a.legs.now a.waypoints.now a.slopes.now) a.sheet.now c.in_ok-size.size c.in_ok-size.ensures
 
-pub returns-in-Refused-clause-sheet : goal.returns-in-Refused-clause-sheet
-returns-in-Refused-clause-sheet c =
-    let a = c.args in left_refused (lists a.kind a.legs.now a.waypoints.now a.slopes.now) a.sheet.now c.in-Refused.r c.in-Refused.ensures
+pub returns-in_err-size-clause-sheet : goal.returns-in_err-size-clause-sheet
+returns-in_err-size-clause-sheet c =
+    let a = c.args in left_refused (lists a.kind a.legs.now a.waypoints.now a.slopes.now) a.sheet.now c.in_err-size.field-0.0 c.in_err-size.ensures

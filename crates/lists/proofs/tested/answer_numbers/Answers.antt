@@ -4,8 +4,9 @@ use borrow.Author.Tests.{lt-ltb}
 use lib.Dec.{ltb}
 use Rattle.sheet.specs.declared.Refusal.TheVariants.{Leg, Reach, Slope, Page}
 use Rattle.answers.proofs.Guards.{stopped, passed}
-use Rattle.lists.specs.Answer.{some_leg_outside, some_reach_outside, some_slope_outside, told_written, write_numbers}
-use Rattle.lists.specs.declared.Written.TheVariants.{Length}
+use Rattle.answers.specs.Answers.{told_count}
+use Rattle.std.specs.Prelude.{Ok}
+use Rattle.lists.specs.Answer.{some_leg_outside, some_reach_outside, some_slope_outside, write_numbers}
 use Rattle.lists.proofs.Tests.{behind_legs, behind_reach, behind_slopes}
 use Rattle.lists.proofs.tested.answer_numbers.Goals as goal
 
@@ -18,7 +19,7 @@ numbers_passed size hs ws ps room l r s =
 
 pub returns-then-room-size : goal.returns-then-room-size
 returns-then-room-size c =
-    let a = c.args in
-    stopped (ltb a.room a.size) Page (told_written (Length a.size)) (lt-ltb a.room a.size (omega arith))
-    ∙ numbers_passed a.size a.legs.now a.waypoints.now a.slopes.now a.room (sym c.legs_outside.ensures ∙ c.if-legs_outside.false)
+    let a = c.args in let k = a.course.now in
+    stopped (ltb a.room a.size) Page (told_count (Ok a.size)) (lt-ltb a.room a.size (omega arith))
+    ∙ numbers_passed a.size k.legs.now k.waypoints.now k.slopes.now a.room (sym c.legs_outside.ensures ∙ c.if-legs_outside.false)
     (sym c.waypoints_outside.ensures ∙ c.if-waypoints_outside.false) (sym c.slopes_outside.ensures ∙ c.if-slopes_outside.false)

@@ -11,7 +11,7 @@ two k h = let e : (256 + k) / 256 % 256 ≡ 1 = omega arith in let f : (256 + k)
 pub returns : goal.returns
 returns c =
     let a = c.args in let l = a.out.now in
-    let up = c.put16.ensures ∙ over_next l 0 (bytes32 a.size) (bytes16 (256 + a.kind)) c.put32.ensures refl (omega arith) in
-    c.put16-2.ensures
+    let up = c.put-2.ensures ∙ over_next l 0 (bytes32 a.size) (bytes16 (256 + a.kind)) c.put.ensures refl (omega arith) in
+    c.put-3.ensures
     ∙ over_next l 0 (bytes32 a.size ++ bytes16 (256 + a.kind)) (bytes16 a.n) up refl (omega arith)
     ∙ ap (λ k. over (bytes32 a.size ++ (k ++ bytes16 a.n)) 0 l) (two a.kind c.requires.1)

@@ -1,0 +1,84 @@
+-- A list's own question (`any`) is the definition's, asked at each place below its length (sheet's specs/Bytes): of its elements, of them with their places,
+-- and of its threes. For the proofs of tested.
+use mathlib.Core.Path.{◌≡◌, refl, sym, ap, ◌∙◌, subst}
+use mathlib.Core.Bool.{Bool, ◌||◌, or-false, or_assoc}
+use mathlib.Core.List.{List, [], ◌∷◌, ◌++◌}
+use Prim.Native.Nat.{ℕ, zero, suc, ◌+◌, ◌*◌, ◌/◌, ◌<◌}
+use native.Mathlib.Omega.{arith}
+use lib.ListN.{length, get_or}
+use Rattle.std.specs.List.{list_any, enumerate_from}
+use Rattle.std.specs.Slice.Iter.{chunks_exact_rest, chunks_exact_size, chunks_exact_steps}
+use Rattle.std.proofs.lemmas.Iterator.{YieldsList}
+use Rattle.std.proofs.lemmas.Iterator.Splits.{YieldsList-from_shown_while}
+use Rattle.sheet.specs.Bytes.{any_below}
+
+-- asked of 0, and of the next n
+any_first : (p : ℕ → Bool) (n : ℕ) → any_below p (suc n) ≡ (p 0 || any_below (λ i. p (suc i)) n)
+unfolding any_below
+any_first p zero = sym (or-false (p 0))
+any_first p (suc n) = ap (λ b. b || p (suc n)) (any_first p n) ∙ or_assoc (p 0) (any_below (λ i. p (suc i)) n) (p (suc n))
+
+module _ {A : Type 0} where
+  pub any_is : (test : A → Bool) (xs : List A) (d : A) → list_any test xs ≡ any_below (λ i. test (get_or xs i d)) (length xs)
+  unfolding any_below
+  any_is test [] d = refl
+  any_is test (x ∷ xs) d = ap (λ b. test x || b) (any_is test xs d) ∙ sym (any_first (λ i. test (get_or (x ∷ xs) i d)) (length xs))
+
+  -- of the elements with their places, the first at n
+  enumerated_from : (test : ℕ → A → Bool) (xs : List A) (d : A) (n : ℕ)
+      → list_any (λ (p : ℕ × A). test p.0 p.1) (enumerate_from n xs) ≡ any_below (λ i. test (n + i) (get_or xs i d)) (length xs)
+  unfolding any_below
+  enumerated_from test [] d n = refl
+  enumerated_from test (x ∷ xs) d n =
+      let first : n + 0 ≡ n = omega arith in let next : (i : ℕ) → n + 1 + i ≡ n + suc i = λ i. omega arith in
+      (λ z. test (sym first z) x || (enumerated_from test xs d (n + 1) ∙ ap (λ p. any_below p (length xs)) (λ k i. test (next i k) (get_or xs i d))) z)
+      ∙ sym (any_first (λ i. test (n + i) (get_or (x ∷ xs) i d)) (length xs))
+
+  pub enumerated_is : (test : ℕ → A → Bool) (xs : List A) (d : A)
+      → list_any (λ (p : ℕ × A). test p.0 p.1) (enumerate_from 0 xs) ≡ any_below (λ i. test i (get_or xs i d)) (length xs)
+  enumerated_is test xs d =
+      let e : (i : ℕ) → 0 + i ≡ i = λ i. omega arith in
+      enumerated_from test xs d 0 ∙ ap (λ p. any_below p (length xs)) (λ k i. test (e i k) (get_or xs i d))
+
+  -- the whole threes of a list
+  abbrev pub threes : List A → List (List A)
+  threes [] = []
+  threes (x ∷ []) = []
+  threes (x ∷ y ∷ []) = []
+  threes (x ∷ y ∷ z ∷ xs) = (x ∷ y ∷ z ∷ []) ∷ threes xs
+
+  pub threes_is : (test : ℕ → A → Bool) (xs : List A) (d : A)
+      → list_any (λ (x : List A). any_below (λ j. test j (get_or x j d)) (length x)) (threes xs)
+      ≡ any_below (λ i. any_below (λ j. test j (get_or xs (3 * i + j) d)) 3) (length xs / 3)
+  unfolding any_below
+  threes_is test [] d = refl
+  threes_is test (x ∷ []) d = refl
+  threes_is test (x ∷ y ∷ []) d = refl
+  threes_is test (x ∷ y ∷ z ∷ xs) d =
+      let all = x ∷ y ∷ z ∷ xs in let p = λ (i : ℕ). any_below (λ j. test j (get_or all (3 * i + j) d)) 3 in
+      let count : length all / 3 ≡ suc (length xs / 3) = omega arith in
+      let next : (i j : ℕ) → suc (suc (suc (3 * i + j))) ≡ 3 * suc i + j = λ i j. omega arith in
+      ap (λ b. p 0 || b) (threes_is test xs d ∙ ap (λ q. any_below q (length xs / 3)) (λ k i. any_below (λ j. test j (get_or all (next i j k) d)) 3))
+      ∙ sym (ap (any_below p) count ∙ any_first p (length xs / 3))
+
+  threes_none : (xs : List A) → length xs < 3 → length (threes xs) ≡ 0
+  threes_none [] h = refl
+  threes_none (x ∷ []) h = refl
+  threes_none (x ∷ y ∷ []) h = refl
+  threes_none (x ∷ y ∷ z ∷ xs) h = absurd (omega arith)
+
+  threes_more : (three xs : List A) → length three ≡ 3 → threes (three ++ xs) ≡ three ∷ threes xs
+  threes_more [] xs e = absurd (omega arith)
+  threes_more (x ∷ []) xs e = absurd (omega arith)
+  threes_more (x ∷ y ∷ []) xs e = absurd (omega arith)
+  threes_more (x ∷ y ∷ z ∷ []) xs e = refl
+  threes_more (w ∷ x ∷ y ∷ z ∷ k) xs e = absurd (omega arith)
+
+  -- `chunks_exact(3)` gives them
+  pub YieldsList-from_threes : {s : _} (xs : List A) → chunks_exact_rest {T = A} s ≡ xs → chunks_exact_size s ≡ 3
+      → YieldsList chunks_exact_steps (λ x. x.now) s (threes xs)
+  YieldsList-from_threes {s} xs e size =
+      subst (λ l. YieldsList chunks_exact_steps (λ x. x.now) s (threes l)) e
+      (YieldsList-from_shown_while chunks_exact_steps (λ x. x.now) (λ t. threes (chunks_exact_rest t)) (λ t. chunks_exact_size t ≡ 3)
+      (λ a b three n. threes_none (chunks_exact_rest a) (omega (arith, three, n.1.0)))
+      (λ a x b three n. (n.0 ∙ three, ap threes n.1.0 ∙ threes_more x.now (chunks_exact_rest b) (n.1.1 ∙ three))) s size)

@@ -1,9 +1,0 @@
--- The legs put are at most those asked for.
-use Rattle.std.proofs.Common.{◌-◌, ◌≤◌}
-use Rattle.runner_runs.proofs.put_rising.Given as goal
-
-abbrev pub invariant-loop-h : goal.invariant-loop-h
-invariant-loop-h l = l.h ≤ l.legs
-
-abbrev pub decreases-loop-h : goal.decreases-loop-h
-decreases-loop-h l = l.legs - l.h
