@@ -5,5 +5,5 @@ mod cuts;
 mod piece;
 mod test;
 
-pub use cuts::{cut, put_end};
-pub use piece::{LegPlaces, MOST_PLACES, Stretch};
+pub use cuts::put_end;
+pub use piece::{LegPlaces, MOST_PLACES, TabledLeg};

@@ -60,7 +60,7 @@ impl Stretch<'_> {
     }
 
     // H2; one tick is kept without being asked.
-    pub fn is_kept(&self) -> bool
+    pub(crate) fn is_kept(&self) -> bool
         ensures { result ≡ kept self.now.tolerance (tabled self.now.places.now) self.now.start self.now.ticks }
     {
         self.ticks < 2 || !self.strays()
