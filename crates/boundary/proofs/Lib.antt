@@ -1,4 +1,3 @@
--- What stores leave in a slice; what is told of a call; a runner that is lent as a slice.
-pub mod Put
-pub mod Tell
+-- What is written of an answer; a runner that is lent as a slice.
+pub mod Told
 pub mod Lent

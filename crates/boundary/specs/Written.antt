@@ -1,7 +1,8 @@
 -- What an exported function leaves in the slice that is lent for its results, and step and back of a runner that is lent as a slice. For boundary, exports and board.
-use Rattle.std.specs.Prelude.{cond, List, ◌++◌, map, ℕ, eqb, leb, ℤ, nat_abs, length, drop, get_or}
-use Rattle.sheet.specs.Answers.{Told, refused}
+use Rattle.std.specs.Prelude.{◌≡◌, cond, List, ◌++◌, map, ℕ, eqb, leb, ◌≤◌, ◌<◌, ℤ, nat_abs, length, drop, get_or, Result, Ok, Err}
+use Rattle.sheet.specs.Answers.{Told, refused, number_of}
 use Rattle.sheet.specs.Reading.{read_by}
+use Rattle.sheet.specs.declared.Refusal.{Refusal}
 use Rattle.sheet.specs.declared.Refusal.TheVariants.{Adrift}
 use Rattle.answers.specs.Answers.{pass_on}
 use Rattle.runner.specs.Ticks.{runner, at_lap}
@@ -10,6 +11,15 @@ use Rattle.runner.specs.declared.Runner.{Runner}
 -- the values at the front of the slice where it has room for them, and the slice as it was where it has not; the rest is kept
 unfoldable pub put : {A : Type 0} → List A → List A → List A
 put values out = cond (leb (length values) (length out)) (values ++ drop (length values) out) out
+
+-- the number that is said of an answer by its values, and what it leaves of a slice
+abbrev pub said : {A : Type 0} → Result (List A) Refusal → ℕ
+said (Ok values) = 0
+said (Err r) = number_of r
+
+abbrev pub left_in : {A : Type 0} → Result (List A) Refusal → List A → List A
+left_in (Ok values) out = put values out
+left_in (Err r) out = out
 
 -- values as a slice of signed numbers holds them, and one of unsigned ones
 abbrev pub signed : List ℤ → List ℤ
@@ -38,3 +48,8 @@ lent_runner r = at_lap (get_or r 2 0) (runner (get_or r 0 0) (get_or r 1 0))
 
 unfoldable pub moved_slice : ℕ → (List ℕ → Runner → Told) → List ℕ → List ℕ → Told
 moved_slice limit call s r = cond (leb 3 (length r)) (call s (lent_runner r)) (no_runner limit s)
+
+-- the answer is the lent runner, or what is said where there is none
+abbrev pub IsLent : ℕ → List ℕ → List ℕ → Result Runner Refusal → Type 0
+IsLent limit s r (Ok at) = (3 ≤ length r) × (at ≡ lent_runner r)
+IsLent limit s r (Err q) = (length r < 3) × (refused q ≡ no_runner limit s)

@@ -10,44 +10,41 @@ ghost use Rattle.layout.specs.Layout.{lay_out_by, laid_out_by};
 ghost use Rattle.runner.specs.Ticks.{runner, at_lap, told_runner, runner_at_tick_by};
 ghost use Rattle.runner.specs.Steps.{stepped_by};
 ghost use Rattle.place.specs.Places.{told_placed, place_at_tick_by, place_of_runner_by};
-ghost use Rattle.boundary.specs.Written.{put, written, written_unsigned, no_runner, moved_slice};
+ghost use Rattle.boundary.specs.Written.{put, said, left_in, written, written_unsigned, no_runner, moved_slice, IsLent};
 
-use answers::Outcome;
-use ends::EndKind;
-use place::Placed;
-use runner::{Runner, RunnerAnswer};
-use sheet::{Reading, Refusal, number_of};
+use place::Place;
+use runner::Runner;
+use sheet::{Course, Refusal};
 
-// S4: the number of a kind.
-fn kind_number(kind: EndKind) -> u64
-    ensures { result ≡ kind_number kind }
+// Results at the front of a slice that has room for them.
+#[tactic(auto, unfolding(crate::specs::Written::put))]
+pub fn put<T: Copy, const N: usize>(out: &mut [T], values: [T; N])
+    ensures { out.new ≡ put values out.old }
 {
-    match kind {
-        EndKind::Free => 0,
-        EndKind::Held => 1,
-        EndKind::Closed => 2,
+    if N <= out.len() {
+        out[..N].copy_from_slice(&values);
     }
 }
 
-// Results at the front of a slice that has room for them: three unsigned, three signed.
-fn put_three(out: &mut [u64], a: u64, b: u64, c: u64)
-    ensures { out.new ≡ put (a ∷ b ∷ c ∷ []) out.old }
+// What every call does with its answer: the values into the slice, or the refusal's number.
+pub fn tell<T: Copy, const N: usize>(answer: Result<[T; N], Refusal>, out: &mut [T]) -> u64
+    ensures answer { result ≡ said answer }
+    ensures out { out.new ≡ left_in answer out.old }
 {
-    if 3 <= out.len() {
-        out[0] = a;
-        out[1] = b;
-        out[2] = c;
+    match answer {
+        Ok(values) => {
+            put(out, values);
+            0
+        }
+        Err(refusal) => u64::from(refusal),
     }
 }
 
-fn put_place(out: &mut [i64], a: i64, b: i64, c: i64)
-    ensures { out.new ≡ put (a ∷ b ∷ c ∷ []) out.old }
+// A course's three numbers.
+fn course_numbers(course: Course) -> [u64; 3]
+    ensures { result ≡ kind_number course.kind ∷ course.points ∷ course.ticks ∷ [] }
 {
-    if 3 <= out.len() {
-        out[0] = a;
-        out[1] = b;
-        out[2] = c;
-    }
+    [u64::from(course.kind), course.points as u64, course.ticks]
 }
 
 // out = kind, N, P
@@ -55,17 +52,7 @@ pub fn read(limit: usize, sheet: &[u8], out: &mut [u64]) -> u64
     ensures answer { result ≡ (told (read_by limit sheet.now)).number }
     ensures out { out.new ≡ written_unsigned (told (read_by limit sheet.now)) out.old }
 {
-    match sheet::read_by(limit, sheet) {
-        Reading::Course {
-            kind,
-            points,
-            ticks,
-        } => {
-            put_three(out, kind_number(kind), points as u64, ticks);
-            0
-        }
-        Reading::Refused(r) => number_of(r),
-    }
+    tell(sheet::read_by(limit, sheet).map(course_numbers), out)
 }
 
 pub fn lay_out(limit: usize, sheet: &[u8], list: &mut [i64]) -> u64
@@ -73,26 +60,24 @@ pub fn lay_out(limit: usize, sheet: &[u8], list: &mut [i64]) -> u64
     ensures list { list.new ≡ laid_out_by limit sheet.now list.old }
 {
     match layout::lay_out_by(limit, sheet, list) {
-        Outcome::Done => 0,
-        Outcome::Refused(r) => number_of(r),
+        Ok(()) => 0,
+        Err(refusal) => u64::from(refusal),
     }
 }
 
+// A place's three numbers.
+fn place_numbers(place: Place) -> [i64; 3]
+    ensures { result ≡ place.at }
+{
+    place.at
+}
+
 // The place into the slice, or the refusal's number.
-pub fn tell_place(answer: Placed, out: &mut [i64]) -> u64
+pub fn tell_place(answer: Result<Place, Refusal>, out: &mut [i64]) -> u64
     ensures answer { result ≡ (told_placed answer).number }
     ensures out { out.new ≡ written (told_placed answer) out.old }
 {
-    let outcome = answer.outcome;
-    let place = answer.place;
-    let at = place.at;
-    match outcome {
-        Outcome::Done => {
-            put_place(out, at[0], at[1], at[2]);
-            0
-        }
-        Outcome::Refused(r) => number_of(r),
-    }
+    tell(answer.map(place_numbers), out)
 }
 
 // out = north, east, up
@@ -100,8 +85,7 @@ pub fn place_at_tick(limit: usize, sheet: &[u8], list: &[i64], tick: u64, out: &
     ensures answer { result ≡ (place_at_tick_by limit sheet.now list.now tick).number }
     ensures out { out.new ≡ written (place_at_tick_by limit sheet.now list.now tick) out.old }
 {
-    let answer = place::place_at_tick_by(limit, sheet, list, tick);
-    tell_place(answer, out)
+    tell_place(place::place_at_tick_by(limit, sheet, list, tick), out)
 }
 
 // out = north, east, up
@@ -121,18 +105,19 @@ pub fn place_of_runner(
     tell_place(place::place_of_runner_by(limit, sheet, list, at), out)
 }
 
+// A runner's three numbers.
+fn runner_numbers(at: Runner) -> [u64; 3]
+    ensures { result ≡ at.leg ∷ at.offset ∷ at.laps ∷ [] }
+{
+    [at.leg, at.offset, at.laps]
+}
+
 // The runner into the slice, or the refusal's number.
-pub fn tell_runner(answer: RunnerAnswer, out: &mut [u64]) -> u64
+pub fn tell_runner(answer: Result<Runner, Refusal>, out: &mut [u64]) -> u64
     ensures answer { result ≡ (told_runner answer).number }
     ensures out { out.new ≡ written_unsigned (told_runner answer) out.old }
 {
-    match answer {
-        RunnerAnswer::At(at) => {
-            put_three(out, at.leg, at.offset, at.laps);
-            0
-        }
-        RunnerAnswer::Refused(r) => number_of(r),
-    }
+    tell(answer.map(runner_numbers), out)
 }
 
 // out = leg, offset, laps
@@ -143,18 +128,15 @@ pub fn runner_at_tick(limit: usize, sheet: &[u8], tick: u64, out: &mut [u64]) ->
     tell_runner(runner::runner_at_tick_by(limit, sheet, tick), out)
 }
 
-// The answer of step and back where no runner is lent: the sheet's refusal, and otherwise adrift.
-pub fn no_runner(limit: usize, sheet: &[u8]) -> RunnerAnswer
-    ensures { told_runner result ≡ no_runner limit sheet.now }
+// The runner of a lent slice, for step and back. Where the slice holds none they answer the sheet's refusal, and otherwise adrift.
+pub fn lent_runner(limit: usize, sheet: &[u8], lent: &[u64]) -> Result<Runner, Refusal>
+    ensures { IsLent limit sheet.now lent.now result }
 {
-    match sheet::read_by(limit, sheet) {
-        Reading::Course {
-            kind: _,
-            points: _,
-            ticks: _,
-        } => RunnerAnswer::Refused(Refusal::Adrift),
-        Reading::Refused(r) => RunnerAnswer::Refused(r),
+    if let [leg, offset, laps, ..] = *lent {
+        return Ok(Runner { leg, offset, laps });
     }
+    sheet::read_by(limit, sheet)?;
+    Err(Refusal::Adrift)
 }
 
 // lent = leg, offset, laps, moved on in place
@@ -162,14 +144,9 @@ pub fn step(limit: usize, sheet: &[u8], lent: &mut [u64]) -> u64
     ensures answer { result ≡ (moved_slice limit (stepped_by limit) sheet.now lent.old).number }
     ensures lent { lent.new ≡ written_unsigned (moved_slice limit (stepped_by limit) sheet.now lent.old) lent.old }
 {
-    if lent.len() < 3 {
-        return tell_runner(no_runner(limit, sheet), lent);
-    }
-    let leg = lent[0];
-    let offset = lent[1];
-    let laps = lent[2];
+    let answer = lent_runner(limit, sheet, lent);
     tell_runner(
-        runner::stepped_by(limit, sheet, Runner { leg, offset, laps }),
+        answer.and_then(|at| runner::stepped_by(limit, sheet, at)),
         lent,
     )
 }

@@ -1,8 +1,7 @@
 -- What a refused call leaves behind, said of the definitions that the entry points' promises cite (A8, A9). For Claims.
-use Rattle.std.specs.Prelude.{◌≡◌, List, [], ℕ, ℤ, length}
+use Rattle.std.specs.Prelude.{◌≡◌, List, [], ℕ, ℤ, length, Err}
 use Rattle.sheet.specs.Answers.{refused}
 use Rattle.sheet.specs.Reading.{Accepted, read_by, read_sheet}
-use Rattle.sheet.specs.declared.Reading.TheVariants.{Refused}
 use Rattle.sheet.specs.declared.Refusal.{Refusal}
 use Rattle.lists.specs.Lists.{Lists}
 use Rattle.lists.specs.Answer.{write_sheet}
@@ -36,7 +35,7 @@ pub record PassedOn (s : List ℕ) (q : Refusal) : Type 0 where
   pub join_second : (t : List ℕ) (room : ℕ) → Accepted t → join_sheets t s room ≡ refused q
 
 abbrev pub RefusalPassedOn : Type 0
-RefusalPassedOn = (s : List ℕ) (q : Refusal) → ((limit : ℕ) → read_by limit s ≡ Refused q → PassedOnBy limit s q) × (read_sheet s ≡ Refused q → PassedOn s q)
+RefusalPassedOn = (s : List ℕ) (q : Refusal) → ((limit : ℕ) → read_by limit s ≡ Err q → PassedOnBy limit s q) × (read_sheet s ≡ Err q → PassedOn s q)
 
 -- A9: a refused laying out leaves the list as it was ..
 abbrev pub RefusedKeepsList : Type 0

@@ -14,12 +14,9 @@ use Rattle.runner.specs.Ticks.{runner}
 use Rattle.runner.specs.Steps.{off_legs, adrift, moved}
 use Rattle.runner.specs.Worked.{sheet_a}
 use Rattle.runner.specs.declared.Runner.{Runner}
-use Rattle.place.specs.Places.{bend_outside, told_placed, place_held}
-use Rattle.seat.proofs.Chain.{Served}
-use Rattle.seat.specs.Serving.{flown, served, turn_after, told_next, seat_after, nobody}
-use Rattle.seat.specs.declared.RoundAnswer.{RoundAnswer}
-use Rattle.seat.specs.declared.SeatOutcome.{SeatOutcome}
-use Rattle.fleet.specs.Round.{seat_of, round_answer, turn_given, fleet_after}
+use Rattle.place.specs.Places.{bend_outside}
+use Rattle.seat.specs.Serving.{flown, served, seat_after, nobody}
+use Rattle.fleet.specs.Round.{seat_of, round_answer, fleet_after}
 
 -- tried: seat 1 goes over the waypoint, and seat 0 stays where it is
 other_tried : fleet_after sheet_a (replicate 9 (pos 0)) (runner 0 0 ∷ runner 0 1 ∷ []) 1 ≡ runner 0 0 ∷ runner 1 0 ∷ []
@@ -31,24 +28,16 @@ pub fleet_kept : (s : List ℕ) (list : List ℤ) (fleet : List Runner) (t : ℕ
 unfolding fleet_after seat_after
 fleet_kept s list fleet t h = ap (set fleet t) (number_keeps (round_answer s list fleet t) (moved s (seat_of fleet t)) (seat_of fleet t) h) ∙ set-get_or fleet t nobody
 
--- what `turned_away` promises, and what the round does, of the records that it finds and those that it leaves
-abbrev pub Away : List ℕ → List ℤ → ℕ → ℕ → RoundAnswer → Type 0
-Away s list k t r =
-    (told_placed r.placed ≡ served s list k t nobody) × (r.placed.place.at ≡ place_held (served s list k t nobody)) × (told_next r.next ≡ turn_after s list k t)
-
-abbrev pub Promised : List ℕ → List ℤ → List Runner → ℕ → RoundAnswer → List Runner → Type 0
-Promised s list ys t r zs =
-    (told_placed r.placed ≡ round_answer s list ys t) × (r.placed.place.at ≡ place_held (round_answer s list ys t)) × (told_next r.next ≡ turn_given s list ys t)
-    × (zs ≡ fleet_after s list ys t)
-
 module _ (s : List ℕ) (list : List ℤ) (ys : List Runner) (t : ℕ) where
-  pub away_promised : length ys ≤ t → (r : RoundAnswer) → Away s list (length ys) t r → Promised s list ys t r ys
-  unfolding fleet_after
-  away_promised h r (told, place, next) =
-      let same : nobody ≡ seat_of ys t = sym (get_or-eq_default ys nobody h) in
-      let e = ap (served s list (length ys) t) same in
-      (told ∙ e, place ∙ ap place_held e, next, sym (set_out ys t _ h))
+  -- the turn is no seat's: it was asked of nobody, and nothing is set
+  module _ (h : length ys ≤ t) where
+    pub away_told : served s list (length ys) t nobody ≡ round_answer s list ys t
+    away_told = ap (served s list (length ys) t) (sym (get_or-eq_default ys nobody h))
 
-  pub served_promised : (n : SeatOutcome) → Served s list (length ys) t (seat_of ys t) n → Promised s list ys t n.answer (set ys t n.at)
+    pub away_kept : ys ≡ fleet_after s list ys t
+    unfolding fleet_after
+    away_kept = sym (set_out ys t _ h)
+
+  pub seat_set : (at : Runner) → at ≡ seat_after s list (length ys) t (seat_of ys t) → set ys t at ≡ fleet_after s list ys t
   unfolding fleet_after
-  served_promised n (told, place, next, at) = (told, place, next, ap (set ys t) at)
+  seat_set at e = ap (set ys t) e

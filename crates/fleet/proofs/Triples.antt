@@ -1,12 +1,11 @@
 -- Records as numbers (specs/Numbers): how many, the record of a seat, a seat set by its three numbers, and that a refused round leaves them (A9). For the round over numbers and for claims.
 use mathlib.Core.Path.{◌≡◌, refl, sym, ap, ◌∙◌}
 use mathlib.Core.List.{List, [], ◌∷◌, ◌++◌}
-use Prim.Native.Nat.{ℕ, zero, suc, ◌+◌, ◌*◌, ◌/◌, ◌≤◌, ◌<◌}
+use Prim.Native.Nat.{ℕ, zero, suc, ◌+◌, ◌*◌, ◌/◌, ◌<◌}
 use native.Mathlib.Nat.{not-suc-le-zero, le_of_suc-le-suc}
 use native.Mathlib.Omega.{arith}
 use lib.IntN.{ℤ}
 use lib.ListN.{length, get_or, set, drop}
-use lib.Seq.{set_out}
 use Rattle.runner.specs.Ticks.{runner, at_lap}
 use Rattle.runner.specs.declared.Runner.{Runner}
 use Rattle.fleet.specs.Round.{seat_of, round_answer}
@@ -78,10 +77,6 @@ unfolding with_records
 set_numbers l t r h =
     sym (λ i. set (set (set l (thrice_is t i) r.leg) (second t i) r.offset) (third t i) r.laps) ∙ set_at l t r h
     ∙ ap (λ n. numbers (set (records l) t r) ++ drop n l) (thrice_is (length (records l)))
-
--- past the last seat nothing is set
-pub none_set : (l : List ℕ) (t : ℕ) (r : Runner) → length (records l) ≤ t → l ≡ with_records l (set (records l) t r)
-none_set l t r h = kept_numbers l ∙ ap (with_records l) (sym (set_out (records l) t r h))
 
 pub numbers_kept : (s : List ℕ) (list : List ℤ) (lent : List ℕ) (t : ℕ) → ¬ ((round_answer s list (records lent) t).number ≡ 0) → numbers_after s list lent t ≡ lent
 unfolding numbers_after

@@ -1,15 +1,13 @@
 -- What is known of a sheet while an axis is laid out: it is accepted, so its fields have their bounds, and so has its course.
-use mathlib.Core.Path.{◌≡◌, sym, ◌∙◌}
+use mathlib.Core.Path.{◌≡◌}
 use mathlib.Core.List.{List}
 use Prim.Native.Nat.{ℕ, ◌≤◌, ◌<◌}
 use native.Mathlib.Omega.{arith}
-use lib.IntN.{nat_abs}
-use lib.ListN.{length}
 use Rattle.integers.proofs.Order.{le_or_lt}
 use Rattle.ends.specs.Ends.{leg_count}
-use Rattle.sheet.specs.Fields.{kind, legs, waypoint, sheet_length}
+use Rattle.sheet.specs.Fields.{kind, legs}
 use Rattle.sheet.specs.Theorems.{Bounds}
-use Rattle.sheet.proofs.ByKind.{least_two, legs_at_most}
+use Rattle.sheet.proofs.ByKind.{least_two}
 use Rattle.spline.specs.Spline as spline
 use Rattle.spline.proofs.Waypoints.{prev_lt}
 use Rattle.layout.specs.Course.{course}
@@ -34,20 +32,8 @@ module _ (x : Axis) where
   pub same_legs : leg_count x.sheet.kind x.sheet.points ≡ legs x.sheet.bytes.now
   same_legs = λ i. leg_count (x.sheet.is_kind i) (x.sheet.is_points i)
 
-  pub sheet_size : length x.sheet.bytes.now ≡ sheet_length x.sheet.kind x.sheet.points
-  sheet_size = x.bounds.size ∙ sym (λ i. sheet_length (x.sheet.is_kind i) (x.sheet.is_points i))
-
   pub two_points : 2 ≤ x.sheet.points
   two_points = omega (arith, x.sheet.is_points, x.bounds.enough, least_two (kind x.sheet.bytes.now))
-
-  pub few_points : x.sheet.points ≤ 512
-  few_points = omega (arith, x.sheet.is_points, x.bounds.few)
-
-  pub few_legs : leg_count x.sheet.kind x.sheet.points ≤ x.sheet.points
-  few_legs = legs_at_most x.sheet.kind x.sheet.points
-
-  pub value_small : (i : ℕ) → i < x.sheet.points → nat_abs (waypoint x.sheet.bytes.now x.axis i) ≤ 1_000_000
-  value_small i h = x.bounds.reach x.axis i x.axis_fits (omega (arith, x.sheet.is_points))
 
   pub end_fits : (i : ℕ) → AtEnd x.sheet.points i → i < x.sheet.points
   end_fits i a = le_or_lt 1 i (i < x.sheet.points) (λ h. omega (arith, a h)) (λ h. omega (arith, two_points))

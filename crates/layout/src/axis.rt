@@ -4,6 +4,7 @@ ghost use Rattle.sheet.specs.Theorems.{Bounds};
 
 use answers::OpenSheet;
 
+// (The axis is a number, and no enum: the place of its numbers in the bytes is counted by it, S7, S8.)
 #[derive(Clone, Copy)]
 pub struct Axis<'a> {
     pub sheet: OpenSheet<'a>,

@@ -1,7 +1,6 @@
--- Why places hold: the numerator, indices and sizes, answers, the entry points; last the waypoints.
+-- Why places hold: the numerator, indices and sizes, the entry points; last the waypoints.
 pub mod Numerator
 pub mod Fitting
-pub mod Answer
 pub mod Entry
 pub mod Ends
 pub mod Waypoints

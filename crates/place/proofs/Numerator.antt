@@ -18,6 +18,10 @@ pos_sub a b h =
     let e : a - b + b ≡ a = omega arith in
     lin 3 (λ a b d. d ⊕ b ≐ a ∷ [] ⊢ d ≗ a ⊖ b with # 1 ∷ []) tt (pos a) (pos b) (pos (a - b)) (ap pos e)
 
+-- the same leg at any offset on it
+pub along : {h u : ℕ} {v w z y : ℤ} → OnLeg h 0 v w z y → u ≤ h → OnLeg h u v w z y
+along o fits = record { leg_low = o.leg_low; leg_high = o.leg_high; offset = fits; start = o.start; end = o.end; start_bend = o.start_bend; end_bend = o.end_bend }
+
 -- what the machine makes of two numbers
 abbrev mul : ℤ → ℤ → ℤ
 mul a b = read a *ℤ read b

@@ -1,12 +1,12 @@
 -- The place by tick and the place by runner (group P; A4, A5). Both entry points promise these.
-use Rattle.std.specs.Prelude.{Bool, cond, ◌||◌, List, [], ◌∷◌, ℕ, ◌+◌, ◌*◌, ◌^◌, eqb, ℤ, pos, length}
+use Rattle.std.specs.Prelude.{Bool, ◌||◌, List, [], ◌∷◌, ℕ, ◌+◌, ◌*◌, ◌^◌, ℤ, length, Result, Ok, Err}
 use Rattle.sheet.specs.Answers.{Told, refused}
 use Rattle.sheet.specs.Bytes.{any_below}
 use Rattle.sheet.specs.Fields.{points, leg, waypoint}
 use Rattle.sheet.specs.Reading.{outside, most_points, read_by}
+use Rattle.sheet.specs.declared.Refusal.{Refusal}
 use Rattle.sheet.specs.declared.Refusal.TheVariants.{Shelf, Past, Adrift, Bend}
 use Rattle.answers.specs.Answers.{pass_on, guard}
-use Rattle.answers.specs.declared.Outcome.TheVariants.{Done, Refused}
 use Rattle.systems.specs.Passes.{at}
 use Rattle.spline.specs.Spline.{next}
 use Rattle.spline.specs.Position.{position}
@@ -15,20 +15,12 @@ use Rattle.layout.specs.Layout.{short}
 use Rattle.runner.specs.Ticks.{past, spot_at}
 use Rattle.runner.specs.Steps.{adrift}
 use Rattle.runner.specs.declared.Runner.{Runner}
-use Rattle.place.specs.declared.Placed.{Placed}
-use Rattle.answers.specs.declared.Outcome.{Outcome}
+use Rattle.place.specs.declared.Place.{Place}
 
 -- F8: number and values of each case, the values being north, east, up
-abbrev pub told_by : Outcome → List ℤ → Told
-told_by Done place = record { number = 0; values = place }
-told_by (Refused r) place = refused r
-
-abbrev pub told_placed : Placed → Told
-told_placed p = told_by p.outcome p.place.at
-
--- what stands in the place beside the answer: its numbers, or zeros where the call is refused (A9)
-abbrev pub place_held : Told → List ℤ
-place_held t = cond (eqb t.number 0) t.values (pos 0 ∷ pos 0 ∷ pos 0 ∷ [])
+abbrev pub told_placed : Result Place Refusal → Told
+told_placed (Ok p) = record { number = 0; values = p.at }
+told_placed (Err r) = refused r
 
 -- the waypoint at a leg's end
 abbrev pub end_of : List ℕ → ℕ → ℕ

@@ -1,5 +1,5 @@
 -- One seat's turn in a round of k seats (A14, group Q). All that a turn depends on are the sheet, the list, k, the turn and the seat's own runner. For seat and fleet.
-use Rattle.std.specs.Prelude.{Bool, cond, ◌||◌, List, [], ◌∷◌, ℕ, suc, eqb, ltb, leb, ℤ, length}
+use Rattle.std.specs.Prelude.{Bool, cond, ◌||◌, List, [], ◌∷◌, ℕ, suc, eqb, ltb, leb, ℤ, length, Option, Some, None}
 use Rattle.sheet.specs.Answers.{Told}
 use Rattle.sheet.specs.Reading.{read_sheet}
 use Rattle.sheet.specs.declared.Refusal.TheVariants.{Shelf, Adrift, Landed, Seats, Turn}
@@ -9,8 +9,6 @@ use Rattle.runner.specs.Ticks.{runner}
 use Rattle.runner.specs.Steps.{adrift, landed, moved}
 use Rattle.runner.specs.declared.Runner.{Runner}
 use Rattle.place.specs.Places.{bend_or_place}
-use Rattle.seat.specs.declared.NextTurn.{NextTurn}
-use Rattle.seat.specs.declared.NextTurn.TheVariants.{Seat, None}
 
 -- N19: no seats, or over 32
 abbrev pub most_seats : ℕ
@@ -45,8 +43,8 @@ unfoldable pub turn_after : List ℕ → List ℤ → ℕ → ℕ → List ℕ
 turn_after s list k t = cond (eqb (admitted s list k t done).number 0) (next_turn k t ∷ []) []
 
 -- F8: the turn of each case
-abbrev pub told_next : NextTurn → List ℕ
-told_next (Seat t) = t ∷ []
+abbrev pub told_next : Option ℕ → List ℕ
+told_next (Some t) = t ∷ []
 told_next None = []
 
 -- Q2, Q3, A9: the seat's runner afterwards, moved on or, where the turn is refused, as it was

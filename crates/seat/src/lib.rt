@@ -2,33 +2,23 @@
 #![tactic(auto)]
 
 ghost use Rattle.std.specs.Prelude.{◌≡◌, cond, ◌<◌, eqb};
-ghost use Rattle.sheet.specs.Answers.{refused};
 ghost use Rattle.runner.specs.Steps.{moved};
-ghost use Rattle.place.specs.Places.{told_placed, place_held};
-ghost use Rattle.seat.specs.Asked.{Ready};
+ghost use Rattle.place.specs.Places.{told_placed};
+ghost use Rattle.seat.specs.Asked.{Admits};
 ghost use Rattle.seat.specs.Serving.{flown, served, next_turn, told_next, turn_after, seat_after, nobody};
 
-use answers::Outcome;
-use ends::EndKind;
-use place::Placed;
+use place::{Laid, Place};
 use runner::Runner;
-use sheet::{Reading, Refusal};
+use sheet::{MOST_POINTS, Refusal};
 
 // N19.
 pub const MOST_SEATS: usize = 32;
 
-// Q3: the seat that has the next turn; none beside a refusal that is not a seat's own.
-#[derive(Clone, Copy)]
-pub enum NextTurn {
-    Seat(u64),
-    None,
-}
-
-// The seat's place or the refusal, and the turn beside it.
+// The seat's place or the refusal, and beside it the seat that has the next turn (Q3): none beside a refusal that is not a seat's own.
 #[derive(Clone, Copy)]
 pub struct RoundAnswer {
-    pub placed: Placed,
-    pub next: NextTurn,
+    pub placed: Result<Place, Refusal>,
+    pub next: Option<u64>,
 }
 
 // The seat's runner, moved or as it was, and the answer.
@@ -36,17 +26,6 @@ pub struct RoundAnswer {
 pub struct SeatOutcome {
     pub at: Runner,
     pub answer: RoundAnswer,
-}
-
-// A9: the number, and the runner as it came.
-fn kept(refusal: Refusal, next: NextTurn, at: Runner) -> SeatOutcome
-    ensures { (told_placed result.answer.placed ≡ refused refusal) × (result.answer.placed.place.at ≡ place_held (refused refusal)) × (result.answer.next ≡ next) × (result.at ≡ at) }
-{
-    let placed = place::refused(refusal);
-    SeatOutcome {
-        at,
-        answer: RoundAnswer { placed, next },
-    }
 }
 
 // Q2: the seat after this one, the first after the last.
@@ -60,75 +39,73 @@ fn next_turn(seats: usize, turn: u64) -> u64
     turn + 1
 }
 
-// The seat on a course that was read: 11, 13, then the step and the place there, or 12.
-fn fly(
-    s: &[u8],
-    list: &[i64],
-    kind: EndKind,
-    points: usize,
-    next: NextTurn,
-    from: Runner,
-) -> SeatOutcome
-    requires { Ready s.now list.now kind points }
-    ensures { (told_placed result.answer.placed ≡ flown s.now list.now from) × (result.answer.placed.place.at ≡ place_held (flown s.now list.now from)) × (result.answer.next ≡ next) × (result.at ≡ cond (eqb (flown s.now list.now from).number 0) (moved s.now from) from) }
+// A14, before any seat: tests 1 to 9, 19 and 20.
+fn admitted<'a>(s: &'a [u8], list: &'a [i64], seats: usize, turn: u64) -> Result<Laid<'a>, Refusal>
+    ensures { Admits s.now list.now seats turn result }
 {
-    let legs = ends::leg_count(kind, points);
-    if runner::is_adrift(s, kind, legs, from) {
-        return kept(Refusal::Adrift, next, from);
+    let reading = answers::open(MOST_POINTS, s);
+    let Ok(sheet) = reading else {
+        return Err(reading.unwrap_err());
+    };
+    let laid = Laid::on(sheet, list)?;
+    if (seats == 0) | (MOST_SEATS < seats) {
+        return Err(Refusal::Seats);
     }
-    if runner::is_landed(s, kind, legs, from) {
-        return kept(Refusal::Landed, next, from);
+    if seats as u64 <= turn {
+        return Err(Refusal::Turn);
     }
-    let moved = runner::moved(s, kind, legs, from);
-    let placed = place::place_at(s, list, points, legs, moved);
-    let outcome = placed.outcome;
-    match outcome {
-        Outcome::Done => SeatOutcome {
-            at: moved,
-            answer: RoundAnswer { placed, next },
-        },
-        Outcome::Refused(_) => SeatOutcome {
-            at: from,
-            answer: RoundAnswer { placed, next },
-        },
+    Ok(laid)
+}
+
+// The seat on a course that was admitted: 11, 13, then the step and the place there, or 12. A refused one stays where it was (A9).
+fn fly(laid: &Laid<'_>, at: &mut Runner) -> Result<Place, Refusal>
+    ensures told { told_placed result ≡ flown laid.now.sheet.bytes.now laid.now.list.now at.old }
+    ensures at { at.new ≡ cond (eqb (flown laid.now.sheet.bytes.now laid.now.list.now at.old).number 0) (moved laid.now.sheet.bytes.now at.old) at.old }
+{
+    if runner::is_adrift(&laid.sheet, *at) {
+        return Err(Refusal::Adrift);
     }
+    if runner::is_landed(&laid.sheet, *at) {
+        return Err(Refusal::Landed);
+    }
+    let moved = runner::moved(&laid.sheet, *at);
+    let place = place::place_at(laid, moved)?;
+    *at = moved;
+    Ok(place)
 }
 
 // A14: the turn `turn` of `seats`, taken by the runner `at`. Tests 1 to 9, 19, 20, then 11, 13, 12.
 pub fn serve(s: &[u8], list: &[i64], seats: usize, turn: u64, at: Runner) -> SeatOutcome
-    ensures { (told_placed result.answer.placed ≡ served s.now list.now seats turn at) × (result.answer.placed.place.at ≡ place_held (served s.now list.now seats turn at)) × (told_next result.answer.next ≡ turn_after s.now list.now seats turn) × (result.at ≡ seat_after s.now list.now seats turn at) }
+    ensures told { told_placed result.answer.placed ≡ served s.now list.now seats turn at }
+    ensures next { told_next result.answer.next ≡ turn_after s.now list.now seats turn }
+    ensures at { result.at ≡ seat_after s.now list.now seats turn at }
 {
-    let reading = sheet::read(s);
-    let Reading::Course {
-        kind,
-        points,
-        ticks: _,
-    } = reading
-    else {
-        return kept(answers::refusal_of(reading), NextTurn::None, at);
+    let admission = admitted(s, list, seats, turn);
+    let Ok(laid) = admission else {
+        let placed = Err(admission.unwrap_err());
+        return SeatOutcome {
+            at,
+            answer: RoundAnswer { placed, next: None },
+        };
     };
-    if place::is_short(list, points) {
-        return kept(Refusal::Shelf, NextTurn::None, at);
+    let next = Some(next_turn(seats, turn));
+    let mut at = at;
+    let placed = fly(&laid, &mut at);
+    SeatOutcome {
+        at,
+        answer: RoundAnswer { placed, next },
     }
-    if (seats == 0) | (MOST_SEATS < seats) {
-        return kept(Refusal::Seats, NextTurn::None, at);
-    }
-    if seats as u64 <= turn {
-        return kept(Refusal::Turn, NextTurn::None, at);
-    }
-    let next = next_turn(seats, turn);
-    fly(s, list, kind, points, NextTurn::Seat(next), at)
 }
 
 // A14, where the turn is no seat's: one of 1 to 9, 19 or 20. It is asked of a runner that no seat has.
 pub fn turned_away(s: &[u8], list: &[i64], seats: usize, turn: u64) -> RoundAnswer
-    ensures { (told_placed result.placed ≡ served s.now list.now seats turn nobody) × (result.placed.place.at ≡ place_held (served s.now list.now seats turn nobody)) × (told_next result.next ≡ turn_after s.now list.now seats turn) }
+    ensures told { told_placed result.placed ≡ served s.now list.now seats turn nobody }
+    ensures next { told_next result.next ≡ turn_after s.now list.now seats turn }
 {
     let nobody = Runner {
         leg: 0,
         offset: 0,
         laps: 0,
     };
-    let n = serve(s, list, seats, turn, nobody);
-    n.answer
+    serve(s, list, seats, turn, nobody).answer
 }

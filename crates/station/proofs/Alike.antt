@@ -5,10 +5,9 @@ use mathlib.Core.List.{List, ◌++◌}
 use Prim.Native.Nat.{ℕ, zero, suc, ◌*◌}
 use lib.Dec.{eqb}
 use lib.ListN.{length, drop}
-use Rattle.sheet.specs.Answers.{Told}
+use Rattle.sheet.specs.Answers.{Told, Reading}
 use Rattle.sheet.specs.Fields.{points}
 use Rattle.sheet.specs.Reading.{read_by}
-use Rattle.sheet.specs.declared.Reading.{Reading}
 use Rattle.sheet.proofs.Laws.{read_alike}
 use Rattle.answers.specs.Answers.{pass_on}
 use Rattle.layout.specs.Layout.{all_bends, lay_out_by, laid_out_by}

@@ -1,5 +1,5 @@
--- What the functions inside ask for: the numbers of one test, a table of a leg's places, and counts that stay small.
-use Rattle.std.specs.Prelude.{List, [], ℕ, ◌+◌, ◌^◌, ◌≤◌, ◌<◌, ℤ, nat_abs, get_or}
+-- What the functions inside ask for: the numbers of one test, and a table of a leg's places.
+use Rattle.std.specs.Prelude.{List, [], ℕ, ◌^◌, ◌≤◌, ◌<◌, ℤ, nat_abs, get_or}
 use Rattle.systems.specs.Passes.{at}
 
 -- a leg's places in a table, a list for each axis
@@ -22,8 +22,3 @@ pub record OnStroke (tolerance m u : ℕ) (x y z : ℤ) : Type 0 where
 -- no place of the table is larger up to offset m
 abbrev pub SmallUpTo : List (List ℤ) → ℕ → Type 0
 SmallUpTo places m = (axis u : ℕ) → axis < 3 → u ≤ m → Small (tabled places axis u)
-
--- the tick at its end, and the count with all ends that it may add
-pub record Counted (from a m n : ℕ) : Type 0 where
-  pub tick : from + (a + m) ≤ 131_072
-  pub count : n + m ≤ 131_073

@@ -5,5 +5,11 @@ mod cuts;
 mod piece;
 mod test;
 
-pub use cuts::{cut, put_end};
-pub use piece::{LegPlaces, MOST_PLACES, Stretch};
+pub use cuts::put_end;
+pub use piece::TabledLeg;
+
+// The places of one axis in the table: a leg of 256 ticks has 257.
+pub const MOST_PLACES: usize = 257;
+
+// A leg's places, axis by axis.
+pub type LegPlaces = [[i64; MOST_PLACES]; 3];

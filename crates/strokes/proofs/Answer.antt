@@ -10,16 +10,10 @@ use lib.IntN.{ℤ, pos, negsuc, nat_abs}
 use lib.ListN.{length, drop}
 use lib.Seq.{sets, sets-eq}
 use Rattle.sheet.specs.Answers.{Told, refused}
-use Rattle.sheet.specs.Bytes.{any_below}
-use Rattle.sheet.specs.Fields.{points, legs}
 use Rattle.sheet.specs.declared.Refusal.{Refusal}
 use Rattle.sheet.proofs.Below.{or_right}
 use Rattle.answers.proofs.Guards.{refused_keeps}
-use Rattle.spline.specs.Spline.{next}
-use Rattle.layout.specs.Course.{course}
-use Rattle.place.specs.Places.{bend_outside}
-use Rattle.strokes.specs.Asked.{bends_at}
-use Rattle.strokes.specs.Strokes.{stroke_ends, grain_outside, any_bend, ink_or_ends, left_by}
+use Rattle.strokes.specs.Strokes.{stroke_ends, grain_outside, ink_or_ends, left_by}
 pub use Rattle.strokes.proofs.Worked as worked
 
 -- a refusal leaves the list as it was
@@ -42,8 +36,3 @@ module _ (s : List ℕ) (list : List ℤ) (t : ℕ) (out : List ℕ) where
 pub fine_is : (z : ℤ) → grain_outside z ≡ false → (z ≡ pos (nat_abs z)) × (nat_abs z ≤ 1_000)
 fine_is (pos n) e = (refl, ltb-false 1_000 n (or_right (ltb n 0) (ltb 1_000 n) e))
 fine_is (negsuc n) e = absurd (false≢true (sym e))
-
--- 12, as the code asks it of a list
-pub bends_are : (s : List ℕ) (list : List ℤ) → any_below (bends_at list (points s)) (legs s) ≡ any_bend s list
-unfolding any_bend bend_outside next course
-bends_are s list = refl

@@ -1,6 +1,6 @@
 -- A course's strokes, leg by leg: what the code asks of each leg, and the ends as a chain from 0 to P. For crate drawn too.
 use mathlib.Core.Path.{◌≡◌, refl, ap, ◌∙◌}
-use mathlib.Core.Bool.{true, false}
+use mathlib.Core.Bool.{true}
 use mathlib.Core.List.{List, [], ◌∷◌, ◌++◌}
 use Prim.Native.Nat.{ℕ, zero, suc, ◌+◌, ◌≤◌, ◌<◌}
 use native.Mathlib.Numerals.{add-one}
@@ -11,26 +11,18 @@ use lib.ListN.{length}
 use lib.Seq.{sets}
 use Rattle.integers.proofs.Order.{le_or_lt}
 use Rattle.sheet.specs.Bytes.{sum_below}
-use Rattle.sheet.specs.Fields.{kind, points, legs, leg}
+use Rattle.sheet.specs.Fields.{points, legs, leg}
 use Rattle.sheet.specs.Reading.{Accepted}
-use Rattle.sheet.specs.Theorems.{Bounds}
-use Rattle.sheet.proofs.Below.{any_none, sum_monotone}
-use Rattle.sheet.proofs.ByKind.{legs_at_most}
+use Rattle.sheet.proofs.Below.{sum_monotone}
 use Rattle.sheet.proofs.Laws.{accepted_bounds}
 use Rattle.spline.specs.Spline.{next}
 use Rattle.layout.specs.Course.{course}
-use Rattle.runner.specs.Ticks.{runner}
-use Rattle.runner.proofs.Standing.{on_leg, not_adrift}
-use Rattle.place.specs.Asked.{Fitting}
-use Rattle.place.specs.Places.{bend_outside, end_of}
-use Rattle.stretch.specs.Asked.{Small}
-use Rattle.strokes.specs.Asked.{OnCourse}
+use Rattle.place.specs.Places.{end_of}
 use Rattle.stretch.specs.Stretches.{kept}
-use Rattle.strokes.specs.Strokes.{any_bend, places_on, leg_ends, ends_below}
+use Rattle.strokes.specs.Strokes.{places_on, leg_ends, ends_below}
 use Rattle.stretch.specs.Chains.{Chain}
 use Rattle.stretch.proofs.Chains.{join, at_most}
 use Rattle.stretch.proofs.Ends.{chain}
-use Rattle.strokes.proofs.Places.{place_small}
 use Rattle.stretch.proofs.Stretches.{short_kept, sets_append}
 
 pub end_inside : (s : List ℕ) (i : ℕ) → i < points s → end_of s i < points s
@@ -39,32 +31,6 @@ end_inside s i h =
     le_or_lt (points s) (suc i) (end_of s i < points s)
     (λ k. rw (eq-eqb (suc i) (points s) (omega arith)) (omega arith))
     (λ k. rw (ne_eqb (suc i) (points s) (λ e. omega arith)) k)
-
-module _ {s : List ℕ} {list : List ℤ} {n l t : ℕ} (o : OnCourse s list n l t) (i : ℕ) (h : i < legs s) where
-  bounds : Bounds s
-  bounds = accepted_bounds s o.accepted
-
-  pub fitting : Fitting s list n l (runner i 0)
-  fitting = record {
-    accepted = o.accepted;
-    is_points = o.is_points;
-    is_legs = o.is_legs;
-    room = o.room;
-    fits = not_adrift s (runner i 0) (on_leg h (bounds.leg_low i h) (λ _. refl));
-  }
-
-  pub within : bend_outside s list i ≡ false
-  unfolding any_bend
-  within = any_none (bend_outside s list) (legs s) o.bends i h
-
-  pub small : (axis u : ℕ) → axis < 3 → u ≤ leg s i → Small (places_on s list i axis u)
-  small = place_small fitting within (omega (arith, o.is_points, end_inside s i (omega (arith, legs_at_most (kind s) (points s)))))
-
-  pub leg_low : 1 ≤ leg s i
-  leg_low = bounds.leg_low i h
-
-  pub leg_high : leg s i ≤ 256
-  leg_high = bounds.leg_high i h
 
 -- the next leg starts where this one ends, at P at the latest
 pub leg_ends_by : (s : List ℕ) → Accepted s → (i : ℕ) → i < legs s → sum_below (leg s) i + leg s i ≤ 131_072

@@ -8,10 +8,10 @@ use native.Mathlib.Omega.{arith}
 use lib.IntN.{ℤ, nat_abs}
 use Rattle.integers.proofs.Made.{times, minus}
 use Rattle.rounding.proofs.Laws.{rounded_size}
-use Rattle.sheet.specs.Fields.{leg}
+use Rattle.sheet.specs.Fields.{points, legs, leg}
+use Rattle.sheet.specs.Reading.{Accepted}
 use Rattle.spline.specs.Position.{numerator, position}
-use Rattle.runner.specs.Ticks.{runner}
-use Rattle.place.specs.Asked.{OnLeg, Fitting}
+use Rattle.place.specs.Asked.{OnLeg}
 use Rattle.place.specs.Places.{bend_outside, end_of, place_on}
 use Rattle.place.proofs.Fitting.{numbers_fit}
 use Rattle.place.proofs.Numerator.{scale, ends, bend, numerator_is}
@@ -28,11 +28,11 @@ position_small h u v w z y o =
     omega (arith, ap nat_abs (numerator_is o), rounded_size n (65536 * h) (omega arith))
 
 -- on a leg with bend numbers within 12's limits
-pub place_small : {s : List ℕ} {list : List ℤ} {n l i : ℕ} → Fitting s list n l (runner i 0) → bend_outside s list i ≡ false → end_of s i < n
+pub place_small : (s : List ℕ) → Accepted s → (list : List ℤ) (i : ℕ) → i < legs s → bend_outside s list i ≡ false → end_of s i < points s
     → (axis u : ℕ) → axis < 3 → u ≤ leg s i → Small (places_on s list i axis u)
 unfolding place_on
-place_small f bends inside axis u fits on =
-    let o = numbers_fit f bends axis fits inside in
+place_small s a list i h bends inside axis u fits on =
+    let o = numbers_fit s a list i h bends axis fits inside in
     position_small _ u _ _ _ _ (record {
       leg_low = o.leg_low;
       leg_high = o.leg_high;

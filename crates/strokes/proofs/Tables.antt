@@ -1,16 +1,12 @@
 -- The strokes of a leg by a table of its places are those by the places.
-use mathlib.Core.Path.{◌≡◌, refl, ap, ◌∙◌}
+use mathlib.Core.Path.{◌≡◌, refl, ap}
 use mathlib.Core.Bool.{Bool, not, cond, ◌||◌}
-use mathlib.Core.List.{List, [], ◌∷◌, ◌++◌}
-use Prim.Native.Nat.{ℕ, zero, suc, ◌+◌, ◌-◌, ◌*◌, ◌/◌, ◌≤◌, ◌<◌}
+use mathlib.Core.List.{[], ◌∷◌, ◌++◌}
+use Prim.Native.Nat.{ℕ, zero, suc, ◌+◌, ◌-◌, ◌/◌, ◌≤◌, ◌<◌}
 use native.Mathlib.Omega.{arith}
 use lib.Dec.{ltb}
-use lib.IntN.{ℤ, pos}
-use lib.ListN.{length, length-append, get_or-append}
-use lib.Seq.{get_or-append-add}
-use Rattle.systems.specs.Passes.{at}
+use lib.IntN.{ℤ}
 use Rattle.sheet.specs.Bytes.{any_below}
-use Rattle.strokes.specs.Asked.{Filled, Table}
 use Rattle.stretch.specs.Stretches.{off, strays_on, strays, kept, ends_by}
 
 -- ---- the same answers at all numbers below n

@@ -1,18 +1,16 @@
 -- Strokes for the tablet (A15, H4): the stroke ends of a course, what the call answers, and what it leaves in the list, after refused calls too. For strokes, exports
 -- and crate drawn.
-use Rattle.std.specs.Prelude.{Bool, cond, List, [], ◌∷◌, ◌++◌, ℕ, zero, suc, ltb, eqb, ℤ, pos, nat_abs, length, drop}
-use Rattle.sheet.specs.Answers.{Told, refused}
+use Rattle.std.specs.Prelude.{Bool, cond, List, [], ◌∷◌, ◌++◌, ℕ, zero, suc, ltb, eqb, ℤ, nat_abs, length, drop, Ok}
+use Rattle.sheet.specs.Answers.{Told}
 use Rattle.sheet.specs.Bytes.{any_below, sum_below}
 use Rattle.sheet.specs.Fields.{legs, leg}
 use Rattle.sheet.specs.Reading.{outside, read_sheet}
 use Rattle.sheet.specs.declared.Refusal.TheVariants.{Shelf, Bend, Grain, Ink}
-use Rattle.answers.specs.Answers.{pass_on, guard}
+use Rattle.answers.specs.Answers.{pass_on, guard, told_count}
 use Rattle.layout.specs.Layout.{short}
 use Rattle.runner.specs.Ticks.{runner}
 use Rattle.place.specs.Places.{bend_outside, place_on}
 use Rattle.stretch.specs.Stretches.{ends_of}
-use Rattle.strokes.specs.declared.StrokesAnswer.{StrokesAnswer}
-use Rattle.strokes.specs.declared.StrokesAnswer.TheVariants.{Ends, Refused}
 
 -- H1: the places of a leg, by axis and offset
 abbrev pub places_on : List ℕ → List ℤ → ℕ → ℕ → ℕ → ℤ
@@ -39,14 +37,9 @@ grain_outside tolerance = outside 0 1_000 tolerance
 unfoldable pub any_bend : List ℕ → List ℤ → Bool
 any_bend s list = any_below (bend_outside s list) (legs s)
 
--- F8: number and values of each case
-abbrev pub told_strokes : StrokesAnswer → Told
-told_strokes (Ends n) = record { number = 0; values = pos n ∷ [] }
-told_strokes (Refused r) = refused r
-
 -- N22, where the list has so much room; otherwise how many ends there are
 abbrev pub ink_or_ends : List ℕ → List ℤ → ℕ → ℕ → Told
-ink_or_ends s list tolerance room = guard (ltb room (length (stroke_ends s list tolerance))) Ink (told_strokes (Ends (length (stroke_ends s list tolerance))))
+ink_or_ends s list tolerance room = guard (ltb room (length (stroke_ends s list tolerance))) Ink (told_count (Ok (length (stroke_ends s list tolerance))))
 
 -- A15
 unfoldable pub strokes_answer : List ℕ → List ℤ → ℤ → ℕ → Told

@@ -1,65 +1,50 @@
 // The stroke ends of a whole course (H4), leg by leg, and whether a list has room for them (N22).
 ghost use Rattle.std.specs.Prelude.{◌≡◌, leb, length};
 ghost use Rattle.std.proofs.lemmas.List.Edits.{sets};
-ghost use Rattle.sheet.specs.Fields.{ticks as sum_of_legs};
-ghost use Rattle.strokes.specs.Strokes.{stroke_ends};
-ghost use Rattle.strokes.specs.Asked.{OnCourse};
+ghost use Rattle.answers.specs.Answers.{told_count};
+ghost use Rattle.strokes.specs.Strokes.{stroke_ends, ink_or_ends, left_by};
 
+use crate::drawing::Drawing;
 use crate::leg::leg_ends;
+use sheet::Refusal;
 use stretch::{MOST_PLACES, put_end};
 
-// H4: written as far as the list goes, and counted in any case.
-pub fn course_ends(
-    s: &[u8],
-    list: &[i64],
-    points: usize,
-    legs: usize,
-    tolerance: u64,
-    ends: &mut [u64],
-) -> usize
-    requires { OnCourse s.now list.now points legs tolerance }
-    ensures count { result ≡ length (stroke_ends s.now list.now tolerance) }
-    ensures ends { ends.new ≡ sets ends.old 0 (stroke_ends s.now list.now tolerance) }
-{
-    let mut places = [[0i64; MOST_PLACES]; 3];
-    let mut n = put_end(ends, 0, 0);
-    let mut from = 0;
-    for i in 0..legs {
-        let h = sheet::leg_length(s, i);
-        n = leg_ends(
-            s,
-            list,
-            points,
-            legs,
-            i,
-            h,
-            tolerance,
-            from,
-            &mut places,
-            ends,
-            n,
-        );
-        from += h as usize;
+impl Drawing<'_> {
+    // H4: written as far as the list goes, and counted in any case.
+    fn course_ends(&self, ends: &mut [u64]) -> usize
+        ensures count { result ≡ length (stroke_ends self.now.laid.sheet.bytes.now self.now.laid.list.now self.now.tolerance) }
+        ensures ends { ends.new ≡ sets ends.old 0 (stroke_ends self.now.laid.sheet.bytes.now self.now.laid.list.now self.now.tolerance) }
+    {
+        let mut places = [[0i64; MOST_PLACES]; 3];
+        let mut n = put_end(ends, 0, 0);
+        let mut from = 0;
+        for i in 0..self.laid.sheet.legs() {
+            let leg = self.laid.leg(i);
+            n = leg_ends(&leg, self.tolerance, from, &mut places, ends, n);
+            from += leg.ticks as usize;
+        }
+        n
     }
-    n
-}
 
-// N22: a list of more places than the course has ticks has room (H5); for a shorter one the ends are counted.
-pub fn has_room(
-    s: &[u8],
-    list: &[i64],
-    points: usize,
-    legs: usize,
-    ticks: u64,
-    tolerance: u64,
-    room: usize,
-) -> bool
-    requires { OnCourse s.now list.now points legs tolerance × (ticks ≡ sum_of_legs s.now) }
-    ensures { result ≡ leb (length (stroke_ends s.now list.now tolerance)) room }
-{
-    if ticks < room as u64 {
-        return true;
+    // N22: a list of more places than the course has ticks has room (H5); for a shorter one the ends are counted.
+    fn has_room(&self, room: usize) -> bool
+        ensures { result ≡ leb (length (stroke_ends self.now.laid.sheet.bytes.now self.now.laid.list.now self.now.tolerance)) room }
+    {
+        if self.laid.sheet.ticks < room as u64 {
+            return true;
+        }
+        let mut nowhere = [0u64; 1];
+        self.course_ends(&mut nowhere) <= room
     }
-    let mut nowhere = [0u64; 1];
-    course_ends(s, list, points, legs, tolerance, &mut nowhere) <= room
+
+    // 22, or the ends: nothing is written before it is known that all of them have room.
+    pub fn draw(&self, ends: &mut [u64]) -> Result<usize, Refusal>
+        ensures told { told_count result ≡ ink_or_ends self.now.laid.sheet.bytes.now self.now.laid.list.now self.now.tolerance (length ends.old) }
+        ensures ends { ends.new ≡ left_by (ink_or_ends self.now.laid.sheet.bytes.now self.now.laid.list.now self.now.tolerance (length ends.old)) (stroke_ends self.now.laid.sheet.bytes.now self.now.laid.list.now self.now.tolerance) ends.old }
+    {
+        if !self.has_room(ends.len()) {
+            return Err(Refusal::Ink);
+        }
+        Ok(self.course_ends(ends))
+    }
 }

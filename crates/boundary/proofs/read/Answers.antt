@@ -1,16 +1,14 @@
--- `read`: the reader's answer decides what is written.
-use Rattle.std.proofs.Common.{◌∙◌, [], ◌∷◌, ℕ, sym, ap}
-use Rattle.sheet.specs.Answers.{told}
-use Rattle.boundary.specs.Written.{put, unsigned}
-use Rattle.boundary.proofs.Tell.{done_written, kept_written}
+-- `read`: the course's three numbers are written, or a refusal's number is given.
+use Rattle.std.proofs.Common.{◌∙◌, refl, ap, [], ◌∷◌, rules}
+use Rattle.ends.specs.Ends.{kind_number}
+use Rattle.sheet.specs.Answers.{Told, told}
+use Rattle.sheet.specs.declared.Course.{Course}
+use Rattle.boundary.specs.Written.{unsigned, written_unsigned}
+use Rattle.boundary.proofs.Told.{told_written}
 use Rattle.boundary.proofs.read.Goals as goal
 
-pub returns-in-Course-clause-out : goal.returns-in-Course-clause-out
-returns-in-Course-clause-out c =
-    let k = c.in-Course in
-    (done_written unsigned _ _ (ap told (sym k.is) ∙ c.read_by.ensures) _ _
-    (c.put_three.ensures ∙ ap (λ (n : ℕ). put (n ∷ k.points ∷ k.ticks ∷ []) c.args.out.now) c.kind_number.ensures)).1
-
-pub returns-in-Refused-clause-out : goal.returns-in-Refused-clause-out
-returns-in-Refused-clause-out c =
-    (kept_written unsigned _ c.in-Refused.r (ap told (sym c.in-Refused.is) ∙ c.read_by.ensures) _ c.number_of.ensures _).1
+pub returns-clause-out : goal.returns-clause-out
+returns-clause-out c =
+    told_written unsigned (λ (k : Course). kind_number k.kind ∷ k.points ∷ k.ticks ∷ []) told (λ x. (refl, refl), λ r. refl) c.read_by.result c.map.result c.map.ensures.cases
+    (λ x v p. search rules) _ _ c.tell.ensures.out
+    ∙ ap (λ (t : Told). written_unsigned t c.args.out.now) c.read_by.ensures

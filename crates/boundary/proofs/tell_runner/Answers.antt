@@ -1,13 +1,12 @@
 -- `tell_runner`: three numbers are written, or a refusal's number is given.
-use Rattle.std.proofs.Common.{sym, ap}
+use Rattle.std.proofs.Common.{refl, [], ◌∷◌, rules}
 use Rattle.runner.specs.Ticks.{told_runner}
+use Rattle.runner.specs.declared.Runner.{Runner}
 use Rattle.boundary.specs.Written.{unsigned}
-use Rattle.boundary.proofs.Tell.{done_written, kept_written}
+use Rattle.boundary.proofs.Told.{told_written}
 use Rattle.boundary.proofs.tell_runner.Goals as goal
 
-pub returns-in-At-clause-out : goal.returns-in-At-clause-out
-returns-in-At-clause-out c = (done_written unsigned _ _ (ap told_runner (sym c.in-At.is)) _ _ c.put_three.ensures).1
-
-pub returns-in-Refused-clause-out : goal.returns-in-Refused-clause-out
-returns-in-Refused-clause-out c =
-    (kept_written unsigned _ c.in-Refused.r (ap told_runner (sym c.in-Refused.is)) _ c.number_of.ensures _).1
+pub returns-clause-out : goal.returns-clause-out
+returns-clause-out c =
+    told_written unsigned (λ (at : Runner). at.leg ∷ at.offset ∷ at.laps ∷ []) told_runner (λ x. (refl, refl), λ r. refl) c.args.answer c.map.result c.map.ensures.cases
+    (λ x v p. search rules) _ _ c.tell.ensures.out

@@ -1,112 +1,83 @@
 -- `strokes`: each return is a link of the definition's chain, with the tests that led there.
-use Rattle.std.proofs.Common.{◌≡◌, ◌∙◌, Bool, true, false, ℕ, ℤ, List, length, sym, ap, arith, nat_abs, refl, w64}
+use Rattle.std.proofs.Common.{◌≡◌, ◌∙◌, Bool, Err, ℕ, ℤ, List, length, sym, ap, arith, rules, nat_abs, refl, w64}
 use mir.Val.{SFits}
 use Rattle.integers.proofs.Machine.{back}
 use Rattle.integers.proofs.Made.{read}
-use borrow.Author.Tests.{ltb-false}
-use Rattle.sheet.specs.Bytes.{any_below}
-use Rattle.sheet.specs.Fields.{legs}
-use Rattle.ends.specs.declared.EndKind.{EndKind}
-use Rattle.sheet.specs.declared.Refusal.TheVariants.{Shelf, Grain, Bend}
-use Rattle.sheet.proofs.ByKind.{legs_at_most}
-use Rattle.answers.proofs.Guards.{passed_on}
+use Rattle.sheet.specs.Answers.{refused}
 use Rattle.sheet.specs.Reading.{most_points}
-use Rattle.runner.proofs.Entry.{Course, course}
-use Rattle.place.proofs.Entry.{few_points, short_is}
-use Rattle.strokes.specs.Asked.{bends_at}
+use Rattle.sheet.specs.declared.Refusal.TheVariants.{Grain, Bend}
+use Rattle.answers.specs.Answers.{told_count}
+use Rattle.answers.proofs.Guards.{passed, stopped}
+use Rattle.runner.proofs.Entry.{not_opened}
+use Rattle.place.proofs.Entry.{shelf_refused, let_on, bytes_are}
 use Rattle.strokes.specs.Strokes.{grain_outside, any_bend, stroke_ends, strokes_answer, drawn_into, left_by, ink_or_ends}
-use Rattle.strokes.proofs.Answer.{refused_by, fine_is, bends_are}
+use Rattle.strokes.proofs.Answer.{refused_by, fine_is}
 use Rattle.strokes.proofs.strokes.Goals as goal
 
 pub returns-in_default : goal.returns-in_default
 unfolding strokes_answer drawn_into
 returns-in_default c =
     let a = c.args in
-    let (told, ends) = refused_by c.refusal_of.result (stroke_ends a.s.now a.list.now (nat_abs a.tolerance)) a.ends.now
-    (passed_on most_points a.s.now _ c.read-reading.ensures _ _ _ c.in_default.is c.refusal_of.ensures) in
+    let (told, ends) = refused_by c.unwrap_err.result (stroke_ends a.s.now a.list.now (nat_abs a.tolerance)) a.ends.now
+    (not_opened most_points a.s.now _ _ _ c.open-reading.ensures c.unwrap_err.ensures) in
     record { told = told; ends = ends }
 
-pub is_short-requires : goal.is_short-requires
-is_short-requires c = few_points (course c.args.s.now _ c.read-reading.ensures _ _ _ c.in-Course.is)
-
-pub returns-then-is_short : goal.returns-then-is_short
+pub returns-in_err-laid : goal.returns-in_err-laid
 unfolding strokes_answer drawn_into
-returns-then-is_short c =
-    let a = c.args in let k = course a.s.now _ c.read-reading.ensures _ _ _ c.in-Course.is in
-    let (told, ends) = refused_by Shelf (stroke_ends a.s.now a.list.now (nat_abs a.tolerance)) a.ends.now
-    (simp (k.read, short_is k a.list.now c.is_short.ensures true c.if-is_short.true)) in
-    record { told = told; ends = ends }
+returns-in_err-laid c =
+    let a = c.args in let short = c.in_err-laid.ensures.err in
+    let e : c.from_residual.result ≡ Err c.in_err-laid.field-0.0 = search rules in
+    let (told, ends) = refused_by c.in_err-laid.field-0.0 (stroke_ends a.s.now a.list.now (nat_abs a.tolerance)) a.ends.now
+    (ap refused short.0 ∙ shelf_refused most_points a.s.now a.list.now c.in-Ok.sheet c.in-Ok.ensures short.1 _) in
+    record { told = ap told_count e ∙ told; ends = ends }
 
 -- 21, asked of the number read back, is asked of the number
-grain_said : (z : ℤ) → SFits w64 z → {b : Bool} → b ≡ grain_outside (read z) → b ≡ grain_outside z
-grain_said z fits said = said ∙ ap grain_outside (back refl fits)
+grain_said : (z : ℤ) → SFits w64 z → {b w : Bool} → b ≡ grain_outside (read z) → b ≡ w → grain_outside z ≡ w
+grain_said z fits said is = sym (said ∙ ap grain_outside (back refl fits)) ∙ is
 
 pub returns-then-grain_outside : goal.returns-then-grain_outside
 unfolding strokes_answer drawn_into
 returns-then-grain_outside c =
-    let a = c.args in let k = course a.s.now _ c.read-reading.ensures _ _ _ c.in-Course.is in
-    let room = short_is k a.list.now c.is_short.ensures false c.if-is_short.false in
-    let grain = sym (grain_said a.tolerance c.ranges.tolerance c.grain_outside.ensures) ∙ c.if-grain_outside.true in
-    let (told, ends) = refused_by Grain (stroke_ends a.s.now a.list.now (nat_abs a.tolerance)) a.ends.now (simp (k.read, room, grain)) in
+    let a = c.args in
+    let grain = grain_said a.tolerance c.ranges.tolerance c.grain_outside.ensures c.if-grain_outside.true in
+    let (told, ends) = refused_by Grain (stroke_ends a.s.now a.list.now (nat_abs a.tolerance)) a.ends.now
+    (stopped _ Grain _ grain ∙ let_on most_points a.s.now a.list.now c.in-Ok.sheet c.in-Ok.ensures c.in_ok-laid.laid c.in_ok-laid.ensures.ok _) in
     record { told = told; ends = ends }
 
-pub leg_count-legs-requires : goal.leg_count-legs-requires
-leg_count-legs-requires c = (course c.args.s.now _ c.read-reading.ensures _ _ _ c.in-Course.is).some
-
-pub any_bend-requires : goal.any_bend-requires
-any_bend-requires c =
-    let k = course c.args.s.now _ c.read-reading.ensures _ _ _ c.in-Course.is in record {
-      has = ltb-false (length c.args.list.now) _ (sym c.is_short.ensures ∙ c.if-is_short.false);
-      few = omega (arith, c.leg_count-legs.ensures, legs_at_most c.in-Course.kind c.in-Course.points);
-      most = few_points k;
-    }
-
--- 12, as the code asks it, is the definition's
-bend_said : {s : List ℕ} {kind : EndKind} {n p : ℕ} → Course s kind n p → (list : List ℤ) {l : ℕ} {b : Bool} → l ≡ legs s
-    → b ≡ any_below (bends_at list n) l → b ≡ any_bend s list
-bend_said {s} k list is said = said ∙ (λ i. any_below (bends_at list (k.is_points i)) (is i)) ∙ bends_are s list
+-- 12, asked of what was laid, is asked of what was lent
+bend_said : {s t : List ℕ} {x y : List ℤ} → t ≡ s → y ≡ x → {b w : Bool} → b ≡ any_bend t y → b ≡ w → any_bend s x ≡ w
+bend_said e f said is = sym (said ∙ (λ i. any_bend (e i) (f i))) ∙ is
 
 pub returns-then-any_bend : goal.returns-then-any_bend
 unfolding strokes_answer drawn_into
 returns-then-any_bend c =
-    let a = c.args in let k = course a.s.now _ c.read-reading.ensures _ _ _ c.in-Course.is in
-    let is = (k.is_read _ c.leg_count-legs.ensures).is_legs in
-    let room = short_is k a.list.now c.is_short.ensures false c.if-is_short.false in
-    let grain = sym (grain_said a.tolerance c.ranges.tolerance c.grain_outside.ensures) ∙ c.if-grain_outside.false in
-    let bend = sym (bend_said k a.list.now is c.any_bend.ensures) ∙ c.if-any_bend.true in
-    let (told, ends) = refused_by Bend (stroke_ends a.s.now a.list.now (nat_abs a.tolerance)) a.ends.now (simp (k.read, room, grain, bend)) in
+    let a = c.args in let o = c.in-Ok.ensures in let l = c.in_ok-laid.ensures.ok in
+    let same = bytes_are most_points a.s.now a.list.now c.in-Ok.sheet o c.in_ok-laid.laid l in
+    let grain = grain_said a.tolerance c.ranges.tolerance c.grain_outside.ensures c.if-grain_outside.false in
+    let bend = bend_said same l.1 c.any_bend.ensures c.if-any_bend.true in
+    let (told, ends) = refused_by Bend (stroke_ends a.s.now a.list.now (nat_abs a.tolerance)) a.ends.now
+    (stopped _ Bend _ bend ∙ passed _ Grain _ grain ∙ let_on most_points a.s.now a.list.now c.in-Ok.sheet o c.in_ok-laid.laid l _) in
     record { told = told; ends = ends }
 
-pub draw-requires : goal.draw-requires
-draw-requires c =
-    let a = c.args in let k = course a.s.now _ c.read-reading.ensures _ _ _ c.in-Course.is in
-    let is = (k.is_read _ c.leg_count-legs.ensures).is_legs in
+pub invariant_of-drawing : goal.invariant_of-drawing
+invariant_of-drawing c =
+    let a = c.args in
     let same : read a.tolerance ≡ a.tolerance = back refl c.ranges.tolerance in
-    let fine = fine_is a.tolerance (sym (grain_said a.tolerance c.ranges.tolerance c.grain_outside.ensures) ∙ c.if-grain_outside.false) in (
-      record {
-        accepted = k.accepted;
-        is_points = k.is_points;
-        is_legs = is;
-        room = short_is k a.list.now c.is_short.ensures false c.if-is_short.false;
-        fine = omega (arith, fine.1, ap nat_abs same);
-        bends = sym (bend_said k a.list.now is c.any_bend.ensures) ∙ c.if-any_bend.false;
-      },
-      k.is_ticks,
-    )
+    let fine = fine_is a.tolerance (grain_said a.tolerance c.ranges.tolerance c.grain_outside.ensures c.if-grain_outside.false) in
+    record { fine = omega (arith, fine.1, ap nat_abs same); bends = sym c.any_bend.ensures ∙ c.if-any_bend.false }
 
 pub returns : goal.returns
 unfolding strokes_answer drawn_into
 returns c =
-    let a = c.args in let k = course a.s.now _ c.read-reading.ensures _ _ _ c.in-Course.is in
-    let is = (k.is_read _ c.leg_count-legs.ensures).is_legs in
+    let a = c.args in let o = c.in-Ok.ensures in let l = c.in_ok-laid.ensures.ok in let out = a.ends.now in
+    let bytes = bytes_are most_points a.s.now a.list.now c.in-Ok.sheet o c.in_ok-laid.laid l in
     let same : read a.tolerance ≡ a.tolerance = back refl c.ranges.tolerance in
-    let room = short_is k a.list.now c.is_short.ensures false c.if-is_short.false in
-    let grain = sym (grain_said a.tolerance c.ranges.tolerance c.grain_outside.ensures) ∙ c.if-grain_outside.false in
-    let bend = sym (bend_said k a.list.now is c.any_bend.ensures) ∙ c.if-any_bend.false in
-    let chain : strokes_answer a.s.now a.list.now a.tolerance (length a.ends.now) ≡ ink_or_ends a.s.now a.list.now (nat_abs a.tolerance) (length a.ends.now) =
-    simp (k.read, room, grain, bend) in record {
-      told = c.draw.ensures.told ∙ ap (λ z. ink_or_ends a.s.now a.list.now (nat_abs z) (length a.ends.now)) same ∙ sym chain;
+    let grain = grain_said a.tolerance c.ranges.tolerance c.grain_outside.ensures c.if-grain_outside.false in
+    let bend = bend_said bytes l.1 c.any_bend.ensures c.if-any_bend.false in
+    let chain : ink_or_ends a.s.now a.list.now (nat_abs a.tolerance) (length out) ≡ strokes_answer a.s.now a.list.now a.tolerance (length out) =
+    passed _ Bend _ bend ∙ passed _ Grain _ grain ∙ let_on most_points a.s.now a.list.now c.in-Ok.sheet o c.in_ok-laid.laid l _ in record {
+      told = c.draw.ensures.told ∙ (λ i. ink_or_ends (bytes i) (l.1 i) (nat_abs (same i)) (length out)) ∙ chain;
       ends = c.draw.ensures.ends
-          ∙ ap (λ z. left_by (ink_or_ends a.s.now a.list.now (nat_abs z) (length a.ends.now)) (stroke_ends a.s.now a.list.now (nat_abs z)) a.ends.now) same
-          ∙ ap (λ x. left_by x (stroke_ends a.s.now a.list.now (nat_abs a.tolerance)) a.ends.now) (sym chain);
+          ∙ (λ i. left_by (ink_or_ends (bytes i) (l.1 i) (nat_abs (same i)) (length out)) (stroke_ends (bytes i) (l.1 i) (nat_abs (same i))) out)
+          ∙ ap (λ x. left_by x (stroke_ends a.s.now a.list.now (nat_abs a.tolerance)) out) chain;
     }

@@ -1,29 +1,20 @@
--- `put_places`: the four numbers of the leg are within the limits that `position` asks for, and its positions are the places.
-use Rattle.std.proofs.Common.{◌∙◌, nat_abs, ap, arith}
-use Rattle.integers.proofs.Made.{given, read_back}
+-- `put_places`: the positions are the places.
+use Rattle.std.proofs.Common.{◌∙◌, to_z, of_z, w64, slice_set, rules, tests}
+use Rattle.sheet.specs.Fields.{waypoint}
 use Rattle.spline.specs.Position.{position}
-use Rattle.place.specs.Places.{place_on}
-use Rattle.place.proofs.Fitting.{numbers_fit}
+use Rattle.place.specs.Places.{bend_of, place_on}
+use Rattle.strokes.specs.Asked.{Filled}
 use Rattle.strokes.proofs.leg.put_places.Goals as goal
 
-pub put_positions-requires : goal.put_positions-requires
-put_positions-requires c =
-    let q = c.requires in let n = c.numbers_on-n.ensures in
-    let f = numbers_fit q.fitting q.i_value c.args.axis q.axis_bound (omega (arith, q.end_value)) in
-    omega (
-      arith,
-      q.end_value.2,
-      ap nat_abs (read_back (given n.0 f.start tt)),
-      ap nat_abs (read_back (given n.1 f.end tt)),
-      ap nat_abs (read_back (given n.2 f.start_bend tt)),
-      ap nat_abs (read_back (given n.3 f.end_bend tt)),
-    )
-
-pub returns : goal.returns
+pub returns-2 : goal.returns-2
 unfolding place_on
-returns c =
-    let q = c.requires in let n = c.numbers_on-n.ensures in
-    let f = numbers_fit q.fitting q.i_value c.args.axis q.axis_bound (omega (arith, q.end_value)) in
-    let v = read_back (given n.0 f.start tt) in let w = read_back (given n.1 f.end tt) in
-    let z = read_back (given n.2 f.start_bend tt) in let y = read_back (given n.3 f.end_bend tt) in
-    record { at_offset = λ u on. c.put_positions.ensures.at_offset u on ∙ (λ i. position (q.end_value.2 i) u (v i) (w i) (z i) (y i)) }
+returns-2 c =
+    let l = c.args.leg.now in let s = l.laid.sheet.bytes.now in let list = l.laid.list.now in let axis = c.args.axis in
+    let x = c.numbers_on-numbers.result in let n = c.numbers_on-numbers.ensures in
+    let f : Filled (slice_set c.loop-u.x c.loop-u.u (to_z w64 (of_z w64 c.position.result))) l.ticks (λ u. position x.h u x.v x.w x.z x.y) = search (rules, tests) in
+    record {
+      at_offset = λ u on.
+          f.at_offset u on
+          ∙ (λ i. position (n.h i) u (n.ends.0 i) (n.ends.1 i) (n.bends.0 i) (n.bends.1 i))
+          ∙ (λ i. position (l.is_ticks i) u (waypoint s axis l.start) (waypoint s axis (l.is_end i)) (bend_of s list axis l.start) (bend_of s list axis (l.is_end i)));
+    }

@@ -7,5 +7,5 @@ use Rattle.strokes.proofs.leg.put_table.Given as goal
 abbrev pub invariant-loop-axis : goal.invariant-loop-axis
 invariant-loop-axis l = record {
   axes : length l.places ≡ 3;
-  put : (axis u : ℕ) → axis < l.axis → u ≤ l.h → tabled l.places axis u ≡ places_on l.s l.list l.i axis u;
+  put : (axis u : ℕ) → axis < l.axis → u ≤ l.leg.ticks → tabled l.places axis u ≡ places_on l.leg.laid.sheet.bytes.now l.leg.laid.list.now l.leg.start axis u;
 }

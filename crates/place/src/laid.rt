@@ -1,0 +1,54 @@
+// An accepted sheet with the lent list that has room for its bend numbers, axis after axis (L5), and what is tested of them: 9 and 12.
+ghost use Rattle.std.specs.Prelude.{◌≡◌, true, false, ◌<◌, length, IfOk, IfErr};
+ghost use Rattle.sheet.specs.Fields.{points as points_of, legs as legs_of};
+ghost use Rattle.sheet.specs.declared.Refusal.TheVariants.{Shelf};
+ghost use Rattle.layout.specs.Layout.{short};
+ghost use Rattle.place.specs.Places.{bend_of, beyond, bend_outside};
+
+use answers::OpenSheet;
+use sheet::Refusal;
+
+// None of 1 to 9 applies.
+#[derive(Clone, Copy)]
+pub struct Laid<'a> {
+    pub sheet: OpenSheet<'a>,
+    pub list: &'a [i64],
+    pub ghost room: { short sheet.bytes.now (length list.now) ≡ false },
+}
+
+// N12, of one number.
+fn is_beyond(z: i64) -> bool
+    ensures { result ≡ beyond z }
+{
+    (z < -137438953472) | (137438953472 < z)
+}
+
+impl<'a> Laid<'a> {
+    // N9, asked of a list.
+    pub fn on(sheet: OpenSheet<'a>, list: &'a [i64]) -> Result<Laid<'a>, Refusal>
+        ensures ok { IfOk result (λ l. (l.sheet.bytes.now ≡ sheet.entry.bytes.now) × (l.list.now ≡ list.now)) }
+        ensures err { IfErr result (λ r. (r ≡ Shelf) × (short sheet.entry.bytes.now (length list.now) ≡ true)) }
+    {
+        if list.len() < 3 * sheet.points {
+            return Err(Refusal::Shelf);
+        }
+        Ok(Laid { sheet, list })
+    }
+
+    // The bend number of a waypoint on an axis.
+    pub fn bend_of(&self, axis: usize, i: usize) -> i64
+        requires { (axis < 3) × (i < points_of self.now.sheet.bytes.now) }
+        ensures { result ≡ bend_of self.now.sheet.bytes.now self.now.list.now axis i }
+    {
+        self.list[axis * self.sheet.points + i]
+    }
+
+    // N12, of leg `i`: of the numbers at its two ends, on all axes.
+    pub fn bend_outside(&self, i: usize) -> bool
+        requires { i < legs_of self.now.sheet.bytes.now }
+        ensures { result ≡ bend_outside self.now.sheet.bytes.now self.now.list.now i }
+    {
+        let end = sheet::end_of(self.sheet.points, i);
+        (0..3).any(|axis| is_beyond(self.bend_of(axis, i)) | is_beyond(self.bend_of(axis, end)))
+    }
+}

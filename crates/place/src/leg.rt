@@ -1,0 +1,66 @@
+// A leg of a course with its bend numbers, once 12 is known not to apply to it. For strokes too, which take a leg's places in a row.
+ghost use Rattle.std.specs.Prelude.{◌≡◌, false, ◌≤◌, ◌<◌};
+ghost use Rattle.sheet.specs.Fields.{points as points_of, legs as legs_of, leg, waypoint};
+ghost use Rattle.runner.specs.Ticks.{runner};
+ghost use Rattle.place.specs.Places.{end_of, bend_of, bend_outside, place_on};
+
+use crate::laid::Laid;
+use crate::numbers::LegNumbers;
+use sheet::waypoint_on;
+
+// The leg's number, the waypoint at its end, and its ticks.
+#[derive(Clone, Copy)]
+pub struct Leg<'a> {
+    pub laid: Laid<'a>,
+    pub start: usize,
+    pub end: usize,
+    pub ticks: u64,
+    pub ghost fits: { start < legs_of laid.sheet.bytes.now },
+    pub ghost is_end: { end ≡ end_of laid.sheet.bytes.now start },
+    pub ghost end_fits: { end < points_of laid.sheet.bytes.now },
+    pub ghost is_ticks: { ticks ≡ leg laid.sheet.bytes.now start },
+    pub ghost inside: { bend_outside laid.sheet.bytes.now laid.list.now start ≡ false },
+}
+
+impl<'a> Laid<'a> {
+    // Leg `i`, of which 12 was asked.
+    pub fn leg(&self, i: usize) -> Leg<'a>
+        requires fits { i < legs_of self.now.sheet.bytes.now }
+        requires inside { bend_outside self.now.sheet.bytes.now self.now.list.now i ≡ false }
+        ensures { (result.laid ≡ self.now) × (result.start ≡ i) × (result.ticks ≡ leg self.now.sheet.bytes.now i) }
+    {
+        Leg {
+            laid: *self,
+            start: i,
+            end: sheet::end_of(self.sheet.points, i),
+            ticks: sheet::leg_length(self.sheet.bytes, i),
+        }
+    }
+}
+
+impl Leg<'_> {
+    // The leg's numbers on an axis: 0 is north, 1 east, 2 up.
+    pub fn numbers_on(&self, axis: usize) -> LegNumbers
+        requires { axis < 3 }
+        ensures h { result.h ≡ self.now.ticks }
+        ensures ends { (result.v ≡ waypoint self.now.laid.sheet.bytes.now axis self.now.start) × (result.w ≡ waypoint self.now.laid.sheet.bytes.now axis self.now.end) }
+        ensures bends { (result.z ≡ bend_of self.now.laid.sheet.bytes.now self.now.laid.list.now axis self.now.start) × (result.y ≡ bend_of self.now.laid.sheet.bytes.now self.now.laid.list.now axis self.now.end) }
+    {
+        let s = self.laid.sheet.bytes;
+        let legs = self.laid.sheet.legs();
+        let h = self.ticks;
+        let v = waypoint_on(s, legs, axis, self.start);
+        let w = waypoint_on(s, legs, axis, self.end);
+        let z = self.laid.bend_of(axis, self.start);
+        let y = self.laid.bend_of(axis, self.end);
+        LegNumbers { h, v, w, z, y }
+    }
+
+    // The place's number on an axis (P1), `offset` ticks along the leg.
+    pub fn place_on(&self, offset: u64, axis: usize) -> i64
+        requires { (offset ≤ self.now.ticks) × (axis < 3) }
+        ensures { result ≡ place_on self.now.laid.sheet.bytes.now self.now.laid.list.now (runner self.now.start offset) axis }
+    {
+        self.numbers_on(axis).position(offset)
+    }
+}

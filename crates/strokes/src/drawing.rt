@@ -1,0 +1,14 @@
+// A course to be drawn.
+ghost use Rattle.std.specs.Prelude.{◌≡◌, false, ◌≤◌};
+ghost use Rattle.strokes.specs.Strokes.{any_bend};
+
+use place::Laid;
+
+// None of 1 to 9, 21 and 12 applies.
+#[derive(Clone, Copy)]
+pub struct Drawing<'a> {
+    pub laid: Laid<'a>,
+    pub tolerance: u64,
+    pub ghost fine: { tolerance ≤ 1_000 },
+    pub ghost bends: { any_bend laid.sheet.bytes.now laid.list.now ≡ false },
+}
