@@ -14,7 +14,7 @@ use Rattle.sheet.specs.Answers.{number_of}
 use Rattle.sheet.specs.Fields.{kind, points, sheet_length}
 use Rattle.sheet.specs.Reading.{order_of, most_points, read_by}
 use Rattle.sheet.specs.Theorems.{Lowest}
-use Rattle.sheet.specs.declared.Reading.TheVariants.{Refused}
+use Rattle.std.specs.Prelude.{Err}
 use Rattle.sheet.specs.declared.Refusal.{Refusal}
 use Rattle.sheet.specs.declared.Refusal.TheVariants.{Torn, Edition, Ends, Points, Board}
 use Rattle.sheet.proofs.Below.{or_right}
@@ -27,7 +27,7 @@ use Rattle.board.specs.Theorems.{Over, BoardRefuses, BoardAlike, BoardClaim, Boa
 pub use Rattle.board.proofs.Worked as tried
 
 -- a refusal that is said is the first that applies
-said : (limit : ℕ) (s : List ℕ) (q : Refusal) → read_by limit s ≡ Refused q → Lowest limit s q
+said : (limit : ℕ) (s : List ℕ) (q : Refusal) → read_by limit s ≡ Err q → Lowest limit s q
 said limit s q e =
     ⊎_elim
     (λ a. let f = a.1 in (absurd (let z : ◌≡◌ {A = ℕ} 0 1 = cc in omega arith)))
@@ -43,7 +43,7 @@ before : (n : ℕ) → n ≤ 4 → order_of n < 5
 before n h = rw (lt-ltb n 5 (omega arith)) (omega arith)
 
 module _ (s : List ℕ) where
-  says : Over s → read_by board_points s ≡ Refused Board
+  says : Over s → read_by board_points s ≡ Err Board
   unfolding read_by
   says o =
       let few = or_right (ltb (points s) (least_points (kind s))) (ltb most_points (points s)) (o.none_before Points (omega arith)) in sym (
@@ -54,7 +54,7 @@ module _ (s : List ℕ) where
       ∙ passed board_points s Torn (past 1) (o.none_before Torn (omega arith))
       )
 
-  over : read_by board_points s ≡ Refused Board → Over s
+  over : read_by board_points s ≡ Err Board → Over s
   over e =
       let l = said board_points s Board e in
       record {

@@ -3,32 +3,17 @@
 
 ghost use Rattle.std.specs.Prelude.{◌<◌};
 
-use printing::print_signed;
+use std::alloc::{AllocError, Allocator};
 use std::io;
 
-fn print_next(rt: &impl Print, z: i64) -> io::Result<()> {
-    print!(rt; " ")?;
-    print_signed(rt, z)
-}
-
-fn end_line(rt: &impl Print) -> io::Result<()> {
-    println!(rt)
-}
-
-fn print_list(rt: &impl Print, name: &str, list: &[i64]) -> io::Result<()> {
+// Lays a sheet out in a list, and prints the list. (What is answered is not asked: a refused sheet would show by its sevens.)
+fn show(rt: &impl Print, name: &str, s: &[u8], list: &mut [i64]) -> io::Result<()> {
+    let _ = layout::lay_out(s, list);
     print!(rt; "{name}")?;
-    let mut i = 0;
-    while i < list.len() {
-        print_next(rt, list[i])?;
-        i = i + 1;
+    for z in list {
+        print!(rt; " {z}")?;
     }
-    end_line(rt)
-}
-
-fn show(rt: &impl Print, name: &str, s: &[u8]) -> io::Result<()> {
-    let mut list = [7i64; 16];
-    layout::lay_out(s, &mut list);
-    print_list(rt, name, &list)
+    println!(rt)
 }
 
 // The chain: free, 49 waypoints, legs of 256, so that a row is z(i-1) + 4 z(i) + z(i+1) = w(i), the second difference of the values. At
@@ -37,7 +22,7 @@ fn show(rt: &impl Print, name: &str, s: &[u8]) -> io::Result<()> {
 // place takes the change along all waypoints; 40 passes that read only the pass before do not.
 const HEAD: [u8; 8] = [0, 0, 2, 180, 1, 0, 0, 49];
 
-fn chain_value(axis: usize, i: usize) -> usize
+fn chain_value(axis: u32, i: u32) -> u32
     requires { i < 49 }
     ensures { result < 65536 }
 {
@@ -49,100 +34,76 @@ fn chain_value(axis: usize, i: usize) -> usize
     }
 }
 
-// The byte at k of the chain's sheet.
-fn chain_byte(k: usize) -> u8
-    requires { k < 692 }
-{
-    if k < 8 {
-        return HEAD[k];
+fn chain_sheet<A: Allocator>(alloc: A) -> Result<Vec<u8, A>, AllocError> {
+    let mut s = Vec::from_array(alloc, HEAD)?;
+    for _ in 0..48 {
+        s.extend_from_slice(&256u16.to_be_bytes())?;
     }
-    if k < 104 {
-        return (1 - k % 2) as u8;
+    for i in 0..49 {
+        for axis in 0..3 {
+            s.extend_from_slice(&chain_value(axis, i).to_be_bytes())?;
+        }
     }
-    let j = k - 104;
-    let value = chain_value(j % 12 / 4, j / 12);
-    match j % 4 {
-        2 => (value / 256) as u8,
-        3 => (value % 256) as u8,
-        _ => 0,
-    }
+    Ok(s)
 }
 
-fn chain_sheet() -> [u8; 692] {
-    let mut s = [0u8; 692];
-    for k in 0..692 {
-        s[k] = chain_byte(k);
-    }
-    s
-}
-
-fn show_chain(rt: &impl Print) -> io::Result<()> {
-    let s = chain_sheet();
-    let mut list = [7i64; 148];
-    layout::lay_out(&s, &mut list);
-    print_list(rt, "chain:", &list)
-}
-
-fn main(rt: HostRuntime) -> io::Result<()> {
+// Each has its comment, its name and its sheet.
+const COURSES: [(&str, &[u8]); 10] = [
     // W1, course A
-    show(
-        &rt,
+    (
         "A:",
         b"\x00\x00\x00\x30\x01\x00\x00\x03\x00\x02\x00\x02\x00\x00\x00\x00\x00\x00\x00\x0a\x00\x00\x00\x14\x00\x00\x00\x08\x00\x00\x00\x0a\x00\x00\x00\x16\x00\x00\x00\x00\x00\x00\x00\x0a\x00\x00\x00\x18",
-    )?;
+    ),
     // W2, A with north's sign turned
-    show(
-        &rt,
+    (
         "A negated:",
         b"\x00\x00\x00\x30\x01\x00\x00\x03\x00\x02\x00\x02\x00\x00\x00\x00\x00\x00\x00\x0a\x00\x00\x00\x14\xff\xff\xff\xf8\x00\x00\x00\x0a\x00\x00\x00\x16\x00\x00\x00\x00\x00\x00\x00\x0a\x00\x00\x00\x18",
-    )?;
+    ),
     // W3, legs 1, 1, 1
-    show(
-        &rt,
+    (
         "free 1 1 1:",
         b"\x00\x00\x00\x3e\x01\x00\x00\x04\x00\x01\x00\x01\x00\x01\x00\x00\x00\x00\x00\x00\x00\x00\x00\x00\x00\x00\x00\x00\x00\x01\x00\x00\x00\x00\x00\x00\x00\x00\x00\x00\x00\x00\x00\x00\x00\x00\x00\x00\x00\x00\x00\x00\x00\x00\x00\x00\x00\x00\x00\x00\x00\x00",
-    )?;
+    ),
     // W4, legs 1, 2
-    show(
-        &rt,
+    (
         "free 1 2:",
         b"\x00\x00\x00\x30\x01\x00\x00\x03\x00\x01\x00\x02\x00\x00\x00\x00\x00\x00\x00\x00\x00\x00\x00\x00\x00\x00\x00\x00\x00\x00\x00\x00\x00\x00\x00\x00\x00\x00\x00\x06\x00\x00\x00\x00\x00\x00\x00\x00",
-    )?;
+    ),
     // W5, held at slopes 0 and 0
-    show(
-        &rt,
+    (
         "held:",
         b"\x00\x00\x00\x3a\x01\x01\x00\x02\x00\x04\x00\x00\x00\x00\x00\x00\x00\x00\x00\x00\x00\x00\x00\x00\x00\x10\x00\x00\x00\x00\x00\x00\x00\x00\x00\x00\x00\x00\x00\x00\x00\x00\x00\x00\x00\x00\x00\x00\x00\x00\x00\x00\x00\x00\x00\x00\x00\x00",
-    )?;
+    ),
     // W6, held at slopes 4 and 4
-    show(
-        &rt,
+    (
         "held slopes 4:",
         b"\x00\x00\x00\x3a\x01\x01\x00\x02\x00\x04\x00\x00\x00\x00\x00\x00\x00\x00\x00\x00\x00\x00\x00\x00\x00\x10\x00\x00\x00\x00\x00\x00\x00\x00\x00\x00\x00\x04\x00\x00\x00\x00\x00\x00\x00\x00\x00\x00\x00\x04\x00\x00\x00\x00\x00\x00\x00\x00",
-    )?;
+    ),
     // W7, closed
-    show(
-        &rt,
+    (
         "closed:",
         b"\x00\x00\x00\x40\x01\x02\x00\x04\x00\x02\x00\x02\x00\x02\x00\x02\x00\x00\x00\x00\x00\x00\x00\x00\x00\x00\x00\x00\x00\x00\x00\x06\x00\x00\x00\x00\x00\x00\x00\x00\x00\x00\x00\x00\x00\x00\x00\x00\x00\x00\x00\x00\xff\xff\xff\xfa\x00\x00\x00\x00\x00\x00\x00\x00",
-    )?;
+    ),
     // W9, free with two waypoints
-    show(
-        &rt,
+    (
         "two waypoints:",
         b"\x00\x00\x00\x22\x01\x00\x00\x02\x00\x01\x00\x00\x00\x03\x00\x00\x00\x00\x00\x00\x00\x00\x00\x00\x00\x07\x00\x00\x00\x00\x00\x00\x00\x00",
-    )?;
+    ),
     // Closed, legs 3, 1, 7, 2, 5, all axes mixed: X5 would give other numbers
-    show(
-        &rt,
+    (
         "closed mixed:",
         b"\x00\x00\x00\x4e\x01\x02\x00\x05\x00\x03\x00\x01\x00\x07\x00\x02\x00\x05\x00\x00\x00\x78\xff\xff\xff\xf9\x00\x00\x0b\xb8\xff\xff\xff\xd3\x00\x00\x00\xfa\xff\xff\xfc\x19\x00\x00\x00\x3c\x00\x00\x00\x1f\x00\x00\x00\x0c\xff\xff\xfc\x7c\x00\x00\x00\x4d\xff\xff\xff\xfb\x00\x00\x00\x0e\xff\xff\xfe\xb3\x00\x00\x03\xe8",
-    )?;
+    ),
     // Held, legs 5, 2, 9, all axes and slopes mixed
-    show(
-        &rt,
+    (
         "held mixed:",
         b"\x00\x00\x00\x56\x01\x01\x00\x04\x00\x05\x00\x02\x00\x09\x00\x00\x00\x05\xff\xff\xff\xd8\x00\x00\x03\x84\xff\xff\xff\xe2\x00\x00\x00\x0c\x00\x00\x03\xe8\x00\x00\x00\x4d\x00\x00\x00\x3c\xff\xff\xfc\xe0\xff\xff\xff\xf7\x00\x00\x00\x00\x00\x00\x00\x29\x00\x00\x00\x03\xff\xff\xff\xf8\x00\x00\x00\x14\xff\xff\xff\xfe\x00\x00\x00\x0b\xff\xff\xff\xef",
-    )?;
-    show_chain(&rt)
+    ),
+];
+
+fn main(rt: HostRuntime) -> io::Result<()> {
+    for (name, s) in COURSES {
+        show(&rt, name, s, &mut [7; 16])?;
+    }
+    show(&rt, "chain:", &chain_sheet(rt.alloc())?, &mut [7; 148])
 }

@@ -92,6 +92,7 @@ fn leg_from(s: &[u8], legs: usize, first: usize, before: u64, tick: u64, laps: u
 }
 
 // The leg and offset of a tick, reduced first, with its laps; reading left the sums.
+#[tactic(auto, using(crate::proofs::Room::bounds), unfolding(crate::specs::Ticks::spot_at))]
 pub fn spot_at(sheet: &OpenSheet<'_>, sums: &[u32; SUMS], tick: u64) -> Runner
     requires { Carried sheet.now.bytes.now (legs sheet.now.bytes.now) sums.now }
     ensures { result ≡ spot_at sheet.now.bytes.now tick }
@@ -104,6 +105,7 @@ pub fn spot_at(sheet: &OpenSheet<'_>, sums: &[u32; SUMS], tick: u64) -> Runner
 }
 
 // The runner from a tick (A6), on sheets with up to `limit` waypoints. Tests 1 to 8 and 10.
+#[tactic(auto, using(crate::proofs::Entry::opening), unfolding(crate::specs::Ticks::runner_at_tick_by))]
 pub fn runner_at_tick_by(limit: usize, s: &[u8], tick: u64) -> Result<Runner, Refusal>
     ensures { told_runner result ≡ runner_at_tick_by limit s.now tick }
 {

@@ -1,6 +1,5 @@
--- `spot_at`: the kept sum at which the walk starts is that of the legs before, and the walk over the sheet's own legs at the reduced tick, at its laps, is the
--- definition.
-use Rattle.std.proofs.Common.{◌≡◌, ◌*◌, ◌-◌, ◌≤◌, ◌∙◌, ℕ, List, refl, ap, get_or, arith}
+-- `spot_at`: the kept sum at which the walk starts is that of the legs before, and no sum is over P.
+use Rattle.std.proofs.Common.{◌≡◌, ◌*◌, ◌≤◌, ◌∙◌, ℕ, List, refl, ap, get_or, arith}
 use Rattle.ends.specs.declared.EndKind.TheVariants.{Closed}
 use Rattle.sheet.proofs.Below.{sum_monotone}
 use Rattle.sheet.proofs.Laws.{accepted_bounds}
@@ -8,7 +7,6 @@ use Rattle.sheet.specs.Bytes.{sum_below}
 use Rattle.sheet.specs.Carried.{stride, Carried}
 use Rattle.sheet.specs.Fields.{legs, leg}
 use Rattle.sheet.specs.Reading.{Accepted}
-use Rattle.runner.specs.Ticks.{at_lap, reduced, laps_in, walk, spot_at}
 use Rattle.runner.proofs.Room.{room}
 use Rattle.runner.proofs.ticks.spot_at.Goals as goal
 use Rattle.runner.proofs.ticks.spot_at.Goals.{After-reduced-here}
@@ -26,12 +24,6 @@ from_start s l sums kept = kept 0 (omega arith)
 all_fit : (s : List ℕ) → Accepted s → (l : ℕ) → l ≡ legs s → sum_below (leg s) l ≤ 131072
 all_fit s a l e = omega (arith, ap (sum_below (leg s)) e, (accepted_bounds s a).few_ticks)
 
-pub reduced-here-requires : goal.reduced-here-requires
-reduced-here-requires c = let sheet = c.args.sheet.now in omega (arith, sheet.is_ticks, (accepted_bounds _ sheet.accepted).some_ticks)
-
-pub laps_in-laps-requires : goal.laps_in-laps-requires
-laps_in-laps-requires c = let sheet = c.args.sheet.now in omega (arith, sheet.is_ticks, (accepted_bounds _ sheet.accepted).some_ticks)
-
 pub sixteenth_at-b-requires-clause-le_legs : goal.sixteenth_at-b-requires-clause-le_legs
 sixteenth_at-b-requires-clause-le_legs c =
     let sheet = c.args.sheet.now in let r = room _ sheet.accepted in
@@ -43,18 +35,7 @@ sixteenth_at-b-requires-clause-fits c b h =
     let sheet = c.args.sheet.now in let l = c.legs-legs.result in
     omega (arith, c.requires b (omega arith), sum_monotone (leg sheet.bytes.now) (stride * b) l h, all_fit _ sheet.accepted l c.legs-legs.ensures)
 
-pub bounds-sums-b : goal.bounds-sums-b
-bounds-sums-b c = let r = room _ c.args.sheet.now.accepted in omega arith
-
 pub leg_from-requires-clause-first_lt_legs : goal.leg_from-requires-clause-first_lt_legs
 leg_from-requires-clause-first_lt_legs c =
     let sheet = c.args.sheet.now in let r = room _ sheet.accepted in
     (c.sixteenth_at-b.ensures.from.0, omega arith, all_fit _ sheet.accepted _ c.legs-legs.ensures)
-
-pub returns : goal.returns
-unfolding spot_at
-returns c =
-    let sheet = c.args.sheet.now in let s = sheet.bytes.now in
-    let tick = c.reduced-here.ensures ∙ (λ i. reduced (sheet.is_kind i) (sheet.is_ticks i) c.args.tick) in
-    let laps = c.laps_in-laps.ensures ∙ (λ i. laps_in (sheet.is_kind i) (sheet.is_ticks i) c.args.tick) in
-    c.leg_from.ensures ∙ (λ i. at_lap (laps i) (walk (leg s) (c.legs-legs.ensures i - 1) 0 (tick i)))
