@@ -25,6 +25,7 @@ fn is_at_start(at: Runner) -> bool
 }
 
 // The last tick of a leg, at a count of laps.
+#[tactic(auto, using(crate::proofs::Room::bounds))]
 fn last_tick(sheet: &OpenSheet<'_>, leg: u64, laps: u64) -> Runner
     requires { leg < legs sheet.now.bytes.now }
     ensures { result ≡ at_lap laps (last_tick sheet.now.bytes.now leg) }
@@ -34,6 +35,7 @@ fn last_tick(sheet: &OpenSheet<'_>, leg: u64, laps: u64) -> Runner
 }
 
 // One tick back: on its leg, over a waypoint onto the leg before, or from waypoint 0 round onto the closing leg, which takes a lap off.
+#[tactic(auto, using(crate::proofs::Room::bounds, crate::proofs::Backward::some_laps), unfolding(crate::specs::Backs::moved_back))]
 fn moved_back(sheet: &OpenSheet<'_>, at: Runner) -> Runner
     requires fits { adrift sheet.now.bytes.now at ≡ false }
     requires away { at_start at ≡ false }
@@ -52,6 +54,7 @@ fn moved_back(sheet: &OpenSheet<'_>, at: Runner) -> Runner
 }
 
 // Back by value (A12). Tests 1 to 8, 11 and 15.
+#[tactic(auto, using(crate::proofs::Entry::opening), unfolding(crate::specs::Backs::backed))]
 pub fn backed(s: &[u8], at: Runner) -> Result<Runner, Refusal>
     ensures { told_runner result ≡ backed s.now at }
 {

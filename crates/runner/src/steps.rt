@@ -12,16 +12,18 @@ use ends::EndKind;
 use sheet::{MOST_POINTS, Refusal, leg_length};
 
 // N13: at the end of an open course.
+#[tactic(auto, using(crate::proofs::Room::bounds))]
 pub fn is_landed(sheet: &OpenSheet<'_>, at: Runner) -> bool
     requires { at.leg < legs sheet.now.bytes.now }
     ensures { result ≡ landed sheet.now.bytes.now at }
 {
     is_open(sheet.kind)
-        & (at.leg + 1 == sheet.legs() as u64)
-        & (at.offset == leg_length(sheet.bytes, at.leg as usize))
+        && at.leg + 1 == sheet.legs() as u64
+        && at.offset == leg_length(sheet.bytes, at.leg as usize)
 }
 
 // N11, of leg and offset: on none of the legs, or not below its leg's length; an open course's end is allowed.
+#[tactic(auto, using(crate::proofs::Room::bounds), unfolding(crate::specs::Steps::off_legs))]
 fn is_off_legs(sheet: &OpenSheet<'_>, at: Runner) -> bool
     ensures { result ≡ off_legs sheet.now.bytes.now at }
 {
@@ -35,10 +37,11 @@ fn is_off_legs(sheet: &OpenSheet<'_>, at: Runner) -> bool
 }
 
 // N11: off the legs, or on an open course with a lap.
+#[tactic(auto, unfolding(crate::specs::Steps::adrift))]
 pub fn is_adrift(sheet: &OpenSheet<'_>, at: Runner) -> bool
     ensures { result ≡ adrift sheet.now.bytes.now at }
 {
-    is_off_legs(sheet, at) | (is_open(sheet.kind) & (0 < at.laps))
+    is_off_legs(sheet, at) || (is_open(sheet.kind) && 0 < at.laps)
 }
 
 // M10: one lap more, save at the largest count, 2^64 - 1.
@@ -49,6 +52,7 @@ fn next_lap(laps: u64) -> u64
 }
 
 // One tick on: on its leg, to the start of the next one, to the end of an open course, or round to the first waypoint, which is a lap more.
+#[tactic(auto, using(crate::proofs::Room::bounds), unfolding(crate::specs::Steps::moved))]
 pub fn moved(sheet: &OpenSheet<'_>, at: Runner) -> Runner
     requires fits { adrift sheet.now.bytes.now at ≡ false }
     requires flies { landed sheet.now.bytes.now at ≡ false }
@@ -76,6 +80,7 @@ pub fn moved(sheet: &OpenSheet<'_>, at: Runner) -> Runner
 }
 
 // The step by value (A7), on sheets with up to `limit` waypoints. Tests 1 to 8, 11 and 13.
+#[tactic(auto, using(crate::proofs::Entry::opening, crate::proofs::Room::bounds), unfolding(crate::specs::Steps::stepped_by))]
 pub fn stepped_by(limit: usize, s: &[u8], at: Runner) -> Result<Runner, Refusal>
     ensures { told_runner result ≡ stepped_by limit s.now at }
 {

@@ -6,4 +6,10 @@ mod piece;
 mod test;
 
 pub use cuts::put_end;
-pub use piece::{LegPlaces, MOST_PLACES, TabledLeg};
+pub use piece::TabledLeg;
+
+// The places of one axis in the table: a leg of 256 ticks has 257.
+pub const MOST_PLACES: usize = 257;
+
+// A leg's places, axis by axis.
+pub type LegPlaces = [[i64; MOST_PLACES]; 3];

@@ -20,11 +20,11 @@ impl Stretch<'_> {
     // H2, of the place u ticks after the start.
     fn off_at(&self, axis: usize, u: usize) -> bool
         requires { (axis < 3) × (u ≤ self.now.ticks) }
-        ensures { result ≡ off_at self.now.tolerance (tabled self.now.places.now axis) self.now.start self.now.ticks u }
+        ensures { result ≡ off_at self.now.leg.now.tolerance (tabled self.now.leg.now.places.now axis) self.now.start self.now.ticks u }
     {
-        let x = &self.places[axis];
+        let x = &self.leg.places[axis];
         is_off(
-            self.tolerance,
+            self.leg.tolerance,
             self.ticks as u64,
             u as u64,
             x[self.start],
@@ -36,7 +36,7 @@ impl Stretch<'_> {
     // H2, on one axis: of the ticks from `low` to the one before `high`.
     fn off_between(&self, axis: usize, low: usize, high: usize) -> bool
         requires { (axis < 3) × (low ≤ high) × (high ≤ self.now.ticks) }
-        ensures { result ≡ any_below (λ k. off_at self.now.tolerance (tabled self.now.places.now axis) self.now.start self.now.ticks (low + k)) (high - low) }
+        ensures { result ≡ any_below (λ k. off_at self.now.leg.now.tolerance (tabled self.now.leg.now.places.now axis) self.now.start self.now.ticks (low + k)) (high - low) }
     {
         (low..high).any(|u| self.off_at(axis, u))
     }
@@ -45,7 +45,7 @@ impl Stretch<'_> {
     // and then no other place need be looked at.
     fn strays_on(&self, axis: usize) -> bool
         requires { (axis < 3) × (2 ≤ self.now.ticks) }
-        ensures { result ≡ strays_on self.now.tolerance (tabled self.now.places.now axis) self.now.start self.now.ticks }
+        ensures { result ≡ strays_on self.now.leg.now.tolerance (tabled self.now.leg.now.places.now axis) self.now.start self.now.ticks }
     {
         let middle = self.ticks / 2;
         self.off_between(axis, middle, self.ticks) || self.off_between(axis, 1, middle)
@@ -54,14 +54,14 @@ impl Stretch<'_> {
     // H2, on all axes.
     fn strays(&self) -> bool
         requires { 2 ≤ self.now.ticks }
-        ensures { result ≡ strays self.now.tolerance (tabled self.now.places.now) self.now.start self.now.ticks }
+        ensures { result ≡ strays self.now.leg.now.tolerance (tabled self.now.leg.now.places.now) self.now.start self.now.ticks }
     {
         (0..3).any(|axis| self.strays_on(axis))
     }
 
     // H2; one tick is kept without being asked.
     pub(crate) fn is_kept(&self) -> bool
-        ensures { result ≡ kept self.now.tolerance (tabled self.now.places.now) self.now.start self.now.ticks }
+        ensures { result ≡ kept self.now.leg.now.tolerance (tabled self.now.leg.now.places.now) self.now.start self.now.ticks }
     {
         self.ticks < 2 || !self.strays()
     }

@@ -10,6 +10,6 @@ use Rattle.stretch.proofs.piece.Stretch.off_between.Goals as goal
 pub returns : goal.returns
 returns c =
     let a = c.args in let s = a.self.now in
-    let asked : ℕ → Bool = off_at s.tolerance (tabled s.places.now a.axis) s.start s.ticks in
+    let asked : ℕ → Bool = off_at s.leg.now.tolerance (tabled s.leg.now.places.now a.axis) s.start s.ticks in
     any_from_yields_List asked _ _ _ c.any.ensures.ran (YieldsList-from_range a.low a.high _ refl refl) (λ x b q k. search (rules, tests))
     ∙ any_ranged asked a.low (a.high - a.low)

@@ -11,6 +11,6 @@ pub returns : goal.returns
 unfolding strays
 returns c =
     let s = c.args.self.now in
-    let asked : ℕ → Bool = λ axis. strays_on s.tolerance (tabled s.places.now axis) s.start s.ticks in
+    let asked : ℕ → Bool = λ axis. strays_on s.leg.now.tolerance (tabled s.leg.now.places.now axis) s.start s.ticks in
     any_from_yields_List asked _ _ _ c.any.ensures.ran (YieldsList-from_range 0 3 _ refl refl) (λ x b q k. search (rules, tests))
     ∙ any_counted asked 3
