@@ -14,6 +14,7 @@ pub use put::{copy_part, put_head};
 use sheet::Refusal;
 
 // Writes the sheet of the lists at the slice's front (G1). Tests 3 to 8, then 14; a refused call leaves the slice as it is.
+// (The lists one by one, as `station_write` lends them.)
 pub fn write(
     kind: u64,
     legs: &[u64],
