@@ -25,6 +25,7 @@ fn is_beyond(z: i64) -> bool
 
 impl<'a> Laid<'a> {
     // N9, asked of a list.
+    #[tactic(auto, using(crate::proofs::Fitting::few_points))]
     pub fn on(sheet: OpenSheet<'a>, list: &'a [i64]) -> Result<Laid<'a>, Refusal>
         ensures ok { IfOk result (λ l. (l.sheet.bytes.now ≡ sheet.entry.bytes.now) × (l.list.now ≡ list.now)) }
         ensures err { IfErr result (λ r. (r ≡ Shelf) × (short sheet.entry.bytes.now (length list.now) ≡ true)) }

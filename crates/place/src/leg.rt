@@ -24,6 +24,7 @@ pub struct Leg<'a> {
 
 impl<'a> Laid<'a> {
     // Leg `i`, of which 12 was asked.
+    #[tactic(auto, using(crate::proofs::Fitting::few_legs, crate::proofs::Fitting::room, crate::proofs::Fitting::end_is))]
     pub fn leg(&self, i: usize) -> Leg<'a>
         requires fits { i < legs_of self.now.sheet.bytes.now }
         requires inside { bend_outside self.now.sheet.bytes.now self.now.list.now i ≡ false }
@@ -40,6 +41,7 @@ impl<'a> Laid<'a> {
 
 impl Leg<'_> {
     // The leg's numbers on an axis: 0 is north, 1 east, 2 up.
+    #[tactic(auto, using(crate::proofs::Fitting::few_legs, crate::proofs::Fitting::room))]
     pub fn numbers_on(&self, axis: usize) -> LegNumbers
         requires { axis < 3 }
         ensures h { result.h ≡ self.now.ticks }

@@ -7,7 +7,7 @@ use Rattle.sheet.specs.Fields.{leg, waypoint}
 use Rattle.place.specs.Places.{end_of, bend_of}
 use Rattle.place.specs.declared.leg.Leg.{Leg}
 use Rattle.place.specs.Asked.{OnLeg}
-use Rattle.place.proofs.Fitting.{point_fits, waypoint_room, numbers_fit}
+use Rattle.place.proofs.Fitting.{numbers_fit}
 use Rattle.place.proofs.leg.Leg.numbers_on.Goals as goal
 
 -- by the leg's own end and ticks
@@ -21,16 +21,6 @@ at_end l axis f =
 -- a number that the code made, and its size
 size : {y x : ℤ} {B : ℕ} → y ≡ x → nat_abs x ≤ B → T (ltb B (2 ^ 63)) → nat_abs (read y) ≤ B
 size e h t = small (given e h t)
-
-pub waypoint_on-v-requires : goal.waypoint_on-v-requires
-waypoint_on-v-requires c =
-    let l = c.args.self.now in let o = l.laid.sheet in
-    (c.legs-legs.ensures, c.requires, waypoint_room o.bytes.now o.accepted _ l.start c.legs-legs.ensures (point_fits o.bytes.now o.accepted l.start l.fits))
-
-pub waypoint_on-w-requires : goal.waypoint_on-w-requires
-waypoint_on-w-requires c =
-    let l = c.args.self.now in let o = l.laid.sheet in
-    (c.legs-legs.ensures, c.requires, waypoint_room o.bytes.now o.accepted _ l.end c.legs-legs.ensures l.end_fits)
 
 pub invariant_of-result : goal.invariant_of-result
 invariant_of-result c =
