@@ -59,6 +59,7 @@ impl Leg<'_> {
     }
 
     // The place's number on an axis (P1), `offset` ticks along the leg.
+    #[tactic(auto, using(integers::proofs::Made::passed), unfolding(crate::specs::Places::place_on))]
     pub fn place_on(&self, offset: u64, axis: usize) -> i64
         requires { (offset ≤ self.now.ticks) × (axis < 3) }
         ensures { result ≡ place_on self.now.laid.sheet.bytes.now self.now.laid.list.now (runner self.now.start offset) axis }

@@ -22,7 +22,7 @@ pub struct Place {
 }
 
 // The place of a runner to which 11 does not apply; 12 is left to test.
-#[tactic(auto, using(crate::proofs::Fitting::leg_fits, crate::proofs::Fitting::offset_fits))]
+#[tactic(auto, using(crate::proofs::Fitting::leg_fits, crate::proofs::Fitting::offset_fits, integers::proofs::Made::passed), unfolding(crate::specs::Places::place_on))]
 pub fn place_at(laid: &Laid<'_>, at: Runner) -> Result<Place, Refusal>
     requires { adrift laid.now.sheet.bytes.now at ≡ false }
     ensures { told_placed result ≡ bend_or_place laid.now.sheet.bytes.now laid.now.list.now at }
