@@ -1,9 +1,9 @@
 // The leg, offset and laps of a tick (P3, P4, P7, M10), and the runner from a tick (A6). For place too.
-ghost use Rattle.std.specs.Prelude.{◌≡◌, ◌+◌, ◌-◌, ◌*◌, ◌≤◌, ◌<◌, get_or};
+ghost use Rattle.std.specs.Prelude.{◌≡◌, ◌+◌, ◌-◌, ◌*◌, ◌≤◌, ◌<◌, ◌&&◌, ltb, get_or};
 ghost use Rattle.sheet.specs.Bytes.{sum_below};
 ghost use Rattle.sheet.specs.Carried.{stride, Carried};
 ghost use Rattle.sheet.specs.Fields.{legs, leg};
-ghost use Rattle.runner.specs.Ticks.{is_open, reduced, laps_in, at_lap, walk, spot_at, past, runner_at_tick, runner_at_tick_by, told_runner};
+ghost use Rattle.runner.specs.Ticks.{is_open, reduced, laps_in, at_lap, walk, spot_at, runner_at_tick, runner_at_tick_by, told_runner};
 
 use crate::Runner;
 use answers::OpenSheet;
@@ -21,10 +21,10 @@ pub fn is_open(kind: EndKind) -> bool
 }
 
 // N10: an open course has no tick over P.
-pub fn is_past(sheet: &OpenSheet<'_>, tick: u64) -> bool
-    ensures { result ≡ past sheet.now.bytes.now tick }
+pub fn is_past(kind: EndKind, ticks: u64, tick: u64) -> bool
+    ensures { result ≡ (is_open kind && ltb ticks tick) }
 {
-    is_open(sheet.kind) && sheet.ticks < tick
+    is_open(kind) && ticks < tick
 }
 
 // P4: ticks of a closed course go round.
@@ -114,7 +114,7 @@ pub fn runner_at_tick_by(limit: usize, s: &[u8], tick: u64) -> Result<Runner, Re
     let Ok(sheet) = reading else {
         return Err(reading.unwrap_err());
     };
-    if is_past(&sheet, tick) {
+    if is_past(sheet.kind, sheet.ticks, tick) {
         return Err(Refusal::Past);
     }
     Ok(spot_at(&sheet, &sums, tick))
