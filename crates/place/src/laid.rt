@@ -39,6 +39,7 @@ impl<'a> Laid<'a> {
     }
 
     // N12, of leg `i`: of the numbers at its two ends, on all axes.
+    #[tactic(auto, using(crate::proofs::Fitting::end_is), unfolding(crate::specs::Places::bend_outside))]
     pub fn bend_outside(&self, i: usize) -> bool
         requires { i < legs_of self.now.sheet.bytes.now }
         ensures { result ≡ bend_outside self.now.sheet.bytes.now self.now.list.now i }
