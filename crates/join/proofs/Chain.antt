@@ -23,7 +23,7 @@ use Rattle.lists.specs.Lists.{points_in, size_of}
 use Rattle.writer.specs.Inside.{over}
 use Rattle.writer.proofs.Parts.{long}
 use Rattle.join.specs.Joining.{is_shut, shut, apart, crowded, join_free, joined_lists, joined_sheet, join_sheets, joined_into}
-use Rattle.join.specs.Inside.{BothFree}
+use Rattle.join.proofs.Both.{BothFree}
 use Rattle.join.proofs.Course.{writable_joined}
 pub use Rattle.join.proofs.Worked as worked
 

@@ -18,7 +18,9 @@ use Rattle.lists.specs.Lists.{Lists, points_in, size_of, lists_of}
 use Rattle.lists.specs.Inside.{Writable}
 use Rattle.lists.proofs.Fields.{count_is, writable_lists}
 use Rattle.join.specs.Joining.{is_shut, in_turn, joined_lists}
-use Rattle.join.specs.Inside.{BothFree}
+use Rattle.answers.specs.declared.opened.OpenSheet.{OpenSheet}
+use Rattle.join.specs.declared.pair.FreePair.{FreePair}
+use Rattle.join.proofs.Both.{BothFree, both_in}
 
 -- an element of two lists, one after the other
 either : {A : Type 0} (P : A → Type 0) (p q : List A) (d : A) (i : ℕ)
@@ -125,3 +127,19 @@ module _ (s : List ℕ) (n : ℕ) (t : List ℕ) (m : ℕ) (f : BothFree s n t m
 pub bounds : (s : List ℕ) (n : ℕ) (t : List ℕ) (m : ℕ) → BothFree s n t m
     → (2 ≤ n) × (n ≤ 512) × (length s ≡ 8 + 2 * (n - 1) + 12 * n) × (2 ≤ m) × (m ≤ 512) × (length t ≡ 8 + 2 * (m - 1) + 12 * m)
 bounds s n t m f = let a = first_counts s n t m f in let b = second_counts s n t m f in (a.some, a.few, a.long, b.some, b.few, b.long)
+
+pub pair_bounds : (p : FreePair) → let s = p.first.bytes.now in let n = p.first.points in let t = p.second.bytes.now in let m = p.second.points in
+    (2 ≤ n) × (n ≤ 512) × (length s ≡ 8 + 2 * (n - 1) + 12 * n) × (2 ≤ m) × (m ≤ 512) × (length t ≡ 8 + 2 * (m - 1) + 12 * m)
+pair_bounds p = bounds _ _ _ _ (both_in p)
+
+pub pair_count : (p : FreePair) → points_in (joined_lists p.first.bytes.now p.second.bytes.now).waypoints ≡ p.first.points + p.second.points - 1
+pair_count p = count_joined _ _ _ _ (both_in p)
+
+pub pair_size : (p : FreePair) → let n = p.first.points in let m = p.second.points in
+    size_of (joined_lists p.first.bytes.now p.second.bytes.now) ≡ 8 + 2 * (n + m - 1 - 1) + 12 * (n + m - 1)
+pair_size p = size_joined _ _ _ _ (both_in p)
+
+-- a waypoint of an open sheet stands in its bytes, as the code asks for one of its numbers
+pub waypoint_there : (sheet : OpenSheet) (l i axis : ℕ) → l ≡ legs sheet.bytes.now → i < sheet.points → axis < 3
+    → (l ≡ legs sheet.bytes.now) × (axis < 3) × (8 + 2 * l + 12 * i + 12 ≤ length sheet.bytes.now)
+waypoint_there sheet l i axis e h k = (e, k, omega (arith, (accepted_bounds sheet.bytes.now sheet.accepted).size, sheet.is_points))

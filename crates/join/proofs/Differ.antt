@@ -1,14 +1,15 @@
--- Two whole numbers that differ (specs/Joining): by the machine's bits, and what it says that they do not.
+-- Whole numbers that differ (specs/Joining): what it says that two do not, and that the code compares three at once.
 use mathlib.Core.Path.{◌≡◌, refl, sym, ap, ◌∙◌}
-use mathlib.Core.Bool.{Bool, true, false, not, ◌||◌, false≢true}
+use mathlib.Core.Bool.{Bool, true, false, not, ◌&&◌, ◌||◌, false≢true}
+use mathlib.Core.List.{[], ◌∷◌}
 use Prim.Native.Nat.{ℕ}
 use native.Mathlib.Omega.{arith}
-use borrow.Author.Tests.{le-ltb, ltb-false, eq-eqb, eqb-true}
-use lib.Dec.{ltb, eqb}
+use borrow.Author.Tests.{le-ltb, ltb-false}
+use lib.Dec.{ltb}
 use lib.IntN.{ℤ, pos, negsuc}
-use mir.Syntax.{w64}
-use mir.Val.{to_z, of_z, SFits}
-use mir.ValLaws.{to_z-of_z}
+use Rattle.std.proofs.Common.{int_eq}
+use Rattle.std.specs.Cmp.Lexicographic.{pointwise}
+use Rattle.std.proofs.lemmas.Bool.Decides.{Decides-int_eq}
 use Rattle.sheet.proofs.Below.{or_left, or_right}
 use Rattle.join.specs.Joining.{differ}
 
@@ -26,17 +27,22 @@ not_differ (pos m) (negsuc n) e = absurd (false≢true (sym e))
 not_differ (negsuc m) (pos n) e = absurd (false≢true (sym e))
 not_differ (negsuc m) (negsuc n) e = ap negsuc (sym (level n m e))
 
--- the code compares the bits of numbers that fit ..
-bits_differ : (x y : ℤ) → SFits w64 x → SFits w64 y → not (eqb (of_z w64 x) (of_z w64 y)) ≡ differ x y
-bits_differ x y f g = go (eqb (of_z w64 x) (of_z w64 y)) (differ x y) refl refl
+-- as the code compares two numbers ..
+eq_differ : (x y : ℤ) → not (int_eq x y) ≡ differ x y
+eq_differ x y = go (int_eq x y) (differ x y) refl refl
   where
-    go : (b d : Bool) → eqb (of_z w64 x) (of_z w64 y) ≡ b → differ x y ≡ d → not b ≡ d
-    go true d e h =
-        let same : x ≡ y = sym (to_z-of_z w64 x f) ∙ ap (to_z w64) (eqb-true (of_z w64 x) (of_z w64 y) e) ∙ to_z-of_z w64 y g in
-        sym (sym h ∙ ap (differ x) (sym same) ∙ same_not x)
+    go : (b d : Bool) → int_eq x y ≡ b → differ x y ≡ d → not b ≡ d
+    go true d e h = let same : x ≡ y = (Decides-int_eq x y).0 e in sym (sym h ∙ ap (differ x) (sym same) ∙ same_not x)
     go false true e h = refl
-    go false false e h = absurd (false≢true (sym e ∙ eq-eqb (of_z w64 x) (of_z w64 y) (ap (of_z w64) (not_differ x y h))))
+    go false false e h = absurd (false≢true (sym e ∙ (Decides-int_eq x y).1 (not_differ x y h)))
 
--- .. numbers that are known
-pub compared : {x y v w : ℤ} → SFits w64 x → SFits w64 y → x ≡ v → y ≡ w → not (eqb (of_z w64 x) (of_z w64 y)) ≡ differ v w
-compared {x} {y} f g d e = bits_differ x y f g ∙ (λ i. differ (d i) (e i))
+-- .. and threes of them
+not_all : (p q r : Bool) → not (p && (q && (r && true))) ≡ (not p || not q || not r)
+not_all false q r = refl
+not_all true false r = refl
+not_all true true false = refl
+not_all true true true = refl
+
+pub threes_differ : (x y z u v w : ℤ) → not (pointwise int_eq (x ∷ y ∷ z ∷ []) (u ∷ v ∷ w ∷ [])) ≡ (differ x u || differ y v || differ z w)
+threes_differ x y z u v w =
+    not_all (int_eq x u) (int_eq y v) (int_eq z w) ∙ (λ i. eq_differ x u i || eq_differ y v i || eq_differ z w i)

@@ -15,7 +15,7 @@ use Rattle.writer.specs.Sheets.{bytes16, number_bytes, head_bytes, written_sheet
 use Rattle.writer.proofs.Sections.{flat_append, flat_length}
 use Rattle.written.proofs.Again.{legs_again, waypoints_again}
 use Rattle.join.specs.Joining.{joined_lists, joined_sheet}
-use Rattle.join.specs.Inside.{BothFree}
+use Rattle.join.proofs.Both.{BothFree}
 use Rattle.join.proofs.Course.{first_counts, second_counts, count_joined}
 
 -- ---- the sections of one accepted sheet are what its fields write

@@ -16,7 +16,7 @@ use Rattle.answers.specs.Answers.{guard, told_count}
 use Rattle.std.specs.Prelude.{Ok}
 use Rattle.lists.specs.Lists.{points_in, size_of}
 use Rattle.join.specs.Joining.{is_shut, shut, differ, apart, joined_lists}
-use Rattle.join.specs.Inside.{BothFree}
+use Rattle.join.proofs.Both.{BothFree}
 use Rattle.join.proofs.Differ.{same_not}
 use Rattle.join.proofs.Course.{Counts, first_counts, second_counts, count_joined, size_joined}
 use Rattle.join.proofs.Chain.{after_crowded, crowded_stops}

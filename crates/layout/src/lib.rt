@@ -18,24 +18,11 @@ fn lay_axes(sheet: &OpenSheet<'_>, list: &mut [i64])
     requires { 3 * sheet.now.points ≤ length list.old }
     ensures { list.new ≡ all_bends sheet.now.bytes.now ++ drop (3 * sheet.now.points) list.old }
 {
-    let east = sheet.points;
-    let up = 2 * sheet.points;
-    let end = 3 * sheet.points;
-    Axis {
-        sheet: *sheet,
-        axis: 0,
-    }
-    .lay(&mut list[0..east]);
-    Axis {
-        sheet: *sheet,
-        axis: 1,
-    }
-    .lay(&mut list[east..up]);
-    Axis {
-        sheet: *sheet,
-        axis: 2,
-    }
-    .lay(&mut list[up..end]);
+    let sheet = *sheet;
+    let (east, up, end) = (sheet.points, 2 * sheet.points, 3 * sheet.points);
+    Axis { sheet, axis: 0 }.lay(&mut list[0..east]);
+    Axis { sheet, axis: 1 }.lay(&mut list[east..up]);
+    Axis { sheet, axis: 2 }.lay(&mut list[up..end]);
 }
 
 // Lays the sheet's bend numbers out in the lent list (A3), of sheets with up to `limit` waypoints. Tests 1 to 9; a refused call leaves the list as it is.

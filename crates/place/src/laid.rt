@@ -3,8 +3,9 @@ ghost use Rattle.std.specs.Prelude.{◌≡◌, true, false, ◌<◌, length, IfO
 ghost use Rattle.sheet.specs.Fields.{points as points_of, legs as legs_of};
 ghost use Rattle.sheet.specs.declared.Refusal.TheVariants.{Shelf};
 ghost use Rattle.layout.specs.Layout.{short};
-ghost use Rattle.place.specs.Places.{bend_of, beyond, bend_outside};
+ghost use Rattle.place.specs.Places.{bend_of, bend_outside};
 
+use crate::bends::{bend_at, bend_outside, is_short};
 use answers::OpenSheet;
 use sheet::Refusal;
 
@@ -16,20 +17,13 @@ pub struct Laid<'a> {
     pub ghost room: { short sheet.bytes.now (length list.now) ≡ false },
 }
 
-// N12, of one number.
-fn is_beyond(z: i64) -> bool
-    ensures { result ≡ beyond z }
-{
-    (z < -137438953472) | (137438953472 < z)
-}
-
 impl<'a> Laid<'a> {
     // N9, asked of a list.
     pub fn on(sheet: OpenSheet<'a>, list: &'a [i64]) -> Result<Laid<'a>, Refusal>
         ensures ok { IfOk result (λ l. (l.sheet.bytes.now ≡ sheet.entry.bytes.now) × (l.list.now ≡ list.now)) }
         ensures err { IfErr result (λ r. (r ≡ Shelf) × (short sheet.entry.bytes.now (length list.now) ≡ true)) }
     {
-        if list.len() < 3 * sheet.points {
+        if is_short(list, sheet.points) {
             return Err(Refusal::Shelf);
         }
         Ok(Laid { sheet, list })
@@ -40,7 +34,7 @@ impl<'a> Laid<'a> {
         requires { (axis < 3) × (i < points_of self.now.sheet.bytes.now) }
         ensures { result ≡ bend_of self.now.sheet.bytes.now self.now.list.now axis i }
     {
-        self.list[axis * self.sheet.points + i]
+        bend_at(self.list, self.sheet.points, axis, i)
     }
 
     // N12, of leg `i`: of the numbers at its two ends, on all axes.
@@ -49,6 +43,6 @@ impl<'a> Laid<'a> {
         ensures { result ≡ bend_outside self.now.sheet.bytes.now self.now.list.now i }
     {
         let end = sheet::end_of(self.sheet.points, i);
-        (0..3).any(|axis| is_beyond(self.bend_of(axis, i)) | is_beyond(self.bend_of(axis, end)))
+        bend_outside(self.list, self.sheet.points, i, end)
     }
 }

@@ -1,6 +1,7 @@
 // The place by tick and the place by runner (group P). For the fleet too, which asks for the place of a seat, and for strokes, which go along the places of a leg.
 #![tactic(auto)]
 
+mod bends;
 mod laid;
 mod leg;
 mod numbers;
@@ -9,6 +10,7 @@ ghost use Rattle.std.specs.Prelude.{◌≡◌, false};
 ghost use Rattle.runner.specs.Steps.{adrift};
 ghost use Rattle.place.specs.Places.{told_placed, bend_or_place, place_at_tick, place_at_tick_by, place_of_runner, place_of_runner_by};
 
+pub use bends::{bend_outside, is_short};
 pub use laid::Laid;
 pub use leg::Leg;
 pub use numbers::LegNumbers;
@@ -51,7 +53,7 @@ pub fn place_at_tick_by(limit: usize, s: &[u8], list: &[i64], tick: u64) -> Resu
         return Err(reading.unwrap_err());
     };
     let laid = Laid::on(sheet, list)?;
-    if runner::is_past(&sheet, tick) {
+    if runner::is_past(sheet.kind, sheet.ticks, tick) {
         return Err(Refusal::Past);
     }
     let at = runner::spot_at(&sheet, &sums, tick);

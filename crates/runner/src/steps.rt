@@ -18,8 +18,8 @@ pub fn is_landed(sheet: &OpenSheet<'_>, at: Runner) -> bool
     ensures { result ≡ landed sheet.now.bytes.now at }
 {
     is_open(sheet.kind)
-        & (at.leg + 1 == sheet.legs() as u64)
-        & (at.offset == leg_length(sheet.bytes, at.leg as usize))
+        && at.leg + 1 == sheet.legs() as u64
+        && at.offset == leg_length(sheet.bytes, at.leg as usize)
 }
 
 // N11, of leg and offset: on none of the legs, or not below its leg's length; an open course's end is allowed.
@@ -37,10 +37,11 @@ fn is_off_legs(sheet: &OpenSheet<'_>, at: Runner) -> bool
 }
 
 // N11: off the legs, or on an open course with a lap.
+#[tactic(auto, unfolding(crate::specs::Steps::adrift))]
 pub fn is_adrift(sheet: &OpenSheet<'_>, at: Runner) -> bool
     ensures { result ≡ adrift sheet.now.bytes.now at }
 {
-    is_off_legs(sheet, at) | (is_open(sheet.kind) & (0 < at.laps))
+    is_off_legs(sheet, at) || (is_open(sheet.kind) && 0 < at.laps)
 }
 
 // M10: one lap more, save at the largest count, 2^64 - 1.

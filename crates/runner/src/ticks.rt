@@ -1,10 +1,9 @@
 // The leg, offset and laps of a tick (P3, P4, P7, M10), and the runner from a tick (A6). For place too.
-ghost use Rattle.std.specs.Prelude.{◌≡◌, ℕ, ◌+◌, ◌-◌, ◌*◌, ◌≤◌, ◌<◌, length, get_or};
+ghost use Rattle.std.specs.Prelude.{◌≡◌, ◌+◌, ◌-◌, ◌*◌, ◌≤◌, ◌<◌, ◌&&◌, ltb, get_or};
 ghost use Rattle.sheet.specs.Bytes.{sum_below};
 ghost use Rattle.sheet.specs.Carried.{stride, Carried};
 ghost use Rattle.sheet.specs.Fields.{legs, leg};
-ghost use Rattle.sheet.specs.Reading.{most_points};
-ghost use Rattle.runner.specs.Ticks.{is_open, reduced, laps_in, at_lap, walk, spot_at, past, runner_at_tick, runner_at_tick_by, told_runner};
+ghost use Rattle.runner.specs.Ticks.{is_open, reduced, laps_in, at_lap, walk, spot_at, runner_at_tick, runner_at_tick_by, told_runner};
 
 use crate::Runner;
 use answers::OpenSheet;
@@ -22,10 +21,10 @@ pub fn is_open(kind: EndKind) -> bool
 }
 
 // N10: an open course has no tick over P.
-pub fn is_past(sheet: &OpenSheet<'_>, tick: u64) -> bool
-    ensures { result ≡ past sheet.now.bytes.now tick }
+pub fn is_past(kind: EndKind, ticks: u64, tick: u64) -> bool
+    ensures { result ≡ (is_open kind && ltb ticks tick) }
 {
-    is_open(sheet.kind) & (sheet.ticks < tick)
+    is_open(kind) && ticks < tick
 }
 
 // P4: ticks of a closed course go round.
@@ -50,14 +49,14 @@ fn laps_in(kind: EndKind, ticks: u64, tick: u64) -> u64
     }
 }
 
-// P7: by the kept sums, the last sixteenth leg that starts at the tick or before it: at most sixteen legs are left to walk. (No sum is over 131,072: N4, N6.)
-fn sixteenth_at(legs: usize, sums: &[u32; SUMS], tick: u64) -> usize
-    requires le_legs { (1 ≤ legs) × (legs ≤ most_points) × (get_or sums.now 0 0 ≤ tick) }
-    requires fits { (b : ℕ) → stride * b ≤ legs → get_or sums.now b 0 ≤ 131072 }
-    ensures from { (stride * result < legs) × (get_or sums.now result 0 ≤ tick) }
-    ensures till { stride * (result + 1) < legs → tick < get_or sums.now (result + 1) 0 }
+// P7: by the kept sums, the last sixteenth leg that starts at the tick or before it: at most sixteen legs are left to walk.
+#[tactic(auto, using(crate::proofs::Room::bounds))]
+fn sixteenth_at(sheet: &OpenSheet<'_>, sums: &[u32; SUMS], tick: u64) -> usize
+    requires { Carried sheet.now.bytes.now (legs sheet.now.bytes.now) sums.now }
+    ensures from { (stride * result < legs sheet.now.bytes.now) × (get_or sums.now result 0 ≤ tick) }
+    ensures till { stride * (result + 1) < legs sheet.now.bytes.now → tick < get_or sums.now (result + 1) 0 }
 {
-    let last = (legs - 1) / STRIDE;
+    let last = (sheet.legs() - 1) / STRIDE;
     for b in 0..last {
         if tick < sums[b + 1] as u64 {
             return b;
@@ -67,14 +66,16 @@ fn sixteenth_at(legs: usize, sums: &[u32; SUMS], tick: u64) -> usize
 }
 
 // P3, P7: the walk along the legs, from leg `first` and the sum before it on. It carries the sum along; a tick that no leg ends after is on the last. The laps are the caller's.
-fn leg_from(s: &[u8], legs: usize, first: usize, before: u64, tick: u64, laps: u64) -> Runner
-    requires first_lt_legs { (first < legs) × (8 + 2 * legs ≤ length s.now) × (sum_below (leg s.now) legs ≤ 131072) }
-    requires before_value { (before ≡ sum_below (leg s.now) first) × (before ≤ tick) }
-    ensures { result ≡ at_lap laps (walk (leg s.now) (legs - 1) 0 tick) }
+#[tactic(auto, using(crate::proofs::Room::bounds))]
+fn leg_from(sheet: &OpenSheet<'_>, first: usize, before: u64, tick: u64, laps: u64) -> Runner
+    requires first_leg { first < legs sheet.now.bytes.now }
+    requires before_value { (before ≡ sum_below (leg sheet.now.bytes.now) first) × (before ≤ tick) }
+    ensures { result ≡ at_lap laps (walk (leg sheet.now.bytes.now) (legs sheet.now.bytes.now - 1) 0 tick) }
 {
+    let last = sheet.legs() - 1;
     let mut start = before;
-    for i in first..legs - 1 {
-        let end = start + sheet::leg_length(s, i);
+    for i in first..last {
+        let end = start + sheet::leg_length(sheet.bytes, i);
         if tick < end {
             return Runner {
                 leg: i as u64,
@@ -85,7 +86,7 @@ fn leg_from(s: &[u8], legs: usize, first: usize, before: u64, tick: u64, laps: u
         start = end;
     }
     Runner {
-        leg: legs as u64 - 1,
+        leg: last as u64,
         offset: tick - start,
         laps,
     }
@@ -99,9 +100,8 @@ pub fn spot_at(sheet: &OpenSheet<'_>, sums: &[u32; SUMS], tick: u64) -> Runner
 {
     let here = reduced(sheet.kind, sheet.ticks, tick);
     let laps = laps_in(sheet.kind, sheet.ticks, tick);
-    let legs = sheet.legs();
-    let b = sixteenth_at(legs, sums, here);
-    leg_from(sheet.bytes, legs, STRIDE * b, sums[b] as u64, here, laps)
+    let b = sixteenth_at(sheet, sums, here);
+    leg_from(sheet, STRIDE * b, sums[b] as u64, here, laps)
 }
 
 // The runner from a tick (A6), on sheets with up to `limit` waypoints. Tests 1 to 8 and 10.
@@ -114,7 +114,7 @@ pub fn runner_at_tick_by(limit: usize, s: &[u8], tick: u64) -> Result<Runner, Re
     let Ok(sheet) = reading else {
         return Err(reading.unwrap_err());
     };
-    if is_past(&sheet, tick) {
+    if is_past(sheet.kind, sheet.ticks, tick) {
         return Err(Refusal::Past);
     }
     Ok(spot_at(&sheet, &sums, tick))

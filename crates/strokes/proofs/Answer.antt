@@ -1,19 +1,16 @@
 -- What the answers tell and leave, for the returns of the functions that answer.
-use mathlib.Core.Path.{◌≡◌, refl, sym, ap, ◌∙◌}
-use mathlib.Core.Bool.{false, false≢true}
+use mathlib.Core.Path.{◌≡◌, sym, ap, ◌∙◌}
 use mathlib.Core.List.{List, [], ◌∷◌, ◌++◌}
 use Prim.Native.Nat.{ℕ, ◌+◌, ◌≤◌}
 use native.Mathlib.Omega.{arith}
-use borrow.Author.Tests.{le-ltb, ltb-false}
-use lib.Dec.{ltb}
-use lib.IntN.{ℤ, pos, negsuc, nat_abs}
+use borrow.Author.Tests.{le-ltb}
+use lib.IntN.{ℤ, pos}
 use lib.ListN.{length, drop}
 use lib.Seq.{sets, sets-eq}
 use Rattle.sheet.specs.Answers.{Told, refused}
 use Rattle.sheet.specs.declared.Refusal.{Refusal}
-use Rattle.sheet.proofs.Below.{or_right}
 use Rattle.answers.proofs.Guards.{refused_keeps}
-use Rattle.strokes.specs.Strokes.{stroke_ends, grain_outside, ink_or_ends, left_by}
+use Rattle.strokes.specs.Strokes.{stroke_ends, ink_or_ends, left_by}
 pub use Rattle.strokes.proofs.Worked as worked
 
 -- a refusal leaves the list as it was
@@ -31,8 +28,3 @@ module _ (s : List ℕ) (list : List ℤ) (t : ℕ) (out : List ℕ) where
       let ends = stroke_ends s list t in
       let e : 0 + length ends ≡ length ends = omega arith in
       sets-eq ends out 0 (omega arith) ∙ ap (λ k. ends ++ drop k out) e ∙ ap (λ x. left_by x ends out) (ends_told h)
-
--- a tolerance that 21 lets pass
-pub fine_is : (z : ℤ) → grain_outside z ≡ false → (z ≡ pos (nat_abs z)) × (nat_abs z ≤ 1_000)
-fine_is (pos n) e = (refl, ltb-false 1_000 n (or_right (ltb n 0) (ltb 1_000 n) e))
-fine_is (negsuc n) e = absurd (false≢true (sym e))

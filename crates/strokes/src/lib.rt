@@ -20,7 +20,7 @@ pub const MOST_TOLERANCE: i64 = 1000;
 fn grain_outside(tolerance: i64) -> bool
     ensures { result ≡ grain_outside tolerance }
 {
-    (tolerance < 0) | (MOST_TOLERANCE < tolerance)
+    !(0..=MOST_TOLERANCE).contains(&tolerance)
 }
 
 // N12, of every leg.

@@ -5,7 +5,7 @@ use Rattle.runner.specs.Steps.{adrift}
 use Rattle.runner.specs.Ticks.{past, spot_at}
 use Rattle.sheet.specs.Answers.{refused}
 use Rattle.sheet.specs.declared.Refusal.TheVariants.{Past}
-use Rattle.runner.proofs.Entry.{not_opened, asked}
+use Rattle.runner.proofs.Entry.{not_opened, asked, past_is}
 use Rattle.runner.proofs.Standing.{tick_stands}
 use Rattle.place.specs.Places.{told_placed, bend_or_place, place_at_tick_by}
 use Rattle.place.proofs.Entry.{shelf_refused, let_on, placed_there}
@@ -26,13 +26,13 @@ pub returns-then-is_past : goal.returns-then-is_past
 unfolding place_at_tick_by
 returns-then-is_past c =
     let a = c.args in let t = a.tick in let o = c.in-Ok.ensures.answer in
-    stopped _ Past _ (asked (λ s. past s t) o.0 c.is_past.ensures c.if-is_past.true)
+    stopped _ Past _ (asked (λ s. past s t) o.0 (c.is_past.ensures ∙ past_is c.in-Ok.sheet c.args.tick) c.if-is_past.true)
     ∙ let_on a.limit a.s.now a.list.now c.in-Ok.sheet o c.in_ok-laid.laid c.in_ok-laid.ensures.ok _
 
 pub place_at-requires : goal.place_at-requires
 place_at-requires c =
     let o = c.in-Ok.sheet in let l = c.in_ok-laid.ensures.ok in
-    (λ i. adrift (l.0 i) (c.spot_at-at.ensures i)) ∙ (tick_stands o.bytes.now o.accepted c.args.tick (sym c.is_past.ensures ∙ c.if-is_past.false)).fits
+    (λ i. adrift (l.0 i) (c.spot_at-at.ensures i)) ∙ (tick_stands o.bytes.now o.accepted c.args.tick (sym (c.is_past.ensures ∙ past_is o c.args.tick) ∙ c.if-is_past.false)).fits
 
 pub returns : goal.returns
 unfolding place_at_tick_by
@@ -41,5 +41,5 @@ returns c =
     c.place_at.ensures
     ∙ placed_there a.limit a.s.now a.list.now c.in-Ok.sheet o c.in_ok-laid.laid c.in_ok-laid.ensures.ok c.spot_at-at.result
     ∙ ap (bend_or_place a.s.now a.list.now) (c.spot_at-at.ensures ∙ ap (λ s. spot_at s t) o.0)
-    ∙ passed _ Past _ (asked (λ s. past s t) o.0 c.is_past.ensures c.if-is_past.false)
+    ∙ passed _ Past _ (asked (λ s. past s t) o.0 (c.is_past.ensures ∙ past_is c.in-Ok.sheet c.args.tick) c.if-is_past.false)
     ∙ let_on a.limit a.s.now a.list.now c.in-Ok.sheet o c.in_ok-laid.laid c.in_ok-laid.ensures.ok _

@@ -1,5 +1,5 @@
 -- `strokes`: each return is a link of the definition's chain, with the tests that led there.
-use Rattle.std.proofs.Common.{◌≡◌, ◌∙◌, Bool, Err, ℕ, ℤ, List, length, sym, ap, arith, rules, nat_abs, refl, w64}
+use Rattle.std.proofs.Common.{◌≡◌, ◌∙◌, Bool, Err, ℕ, ℤ, List, length, sym, ap, rules, nat_abs, refl, w64}
 use mir.Val.{SFits}
 use Rattle.integers.proofs.Machine.{back}
 use Rattle.integers.proofs.Made.{read}
@@ -11,7 +11,7 @@ use Rattle.answers.proofs.Guards.{passed, stopped}
 use Rattle.runner.proofs.Entry.{not_opened}
 use Rattle.place.proofs.Entry.{shelf_refused, let_on, bytes_are}
 use Rattle.strokes.specs.Strokes.{grain_outside, any_bend, stroke_ends, strokes_answer, drawn_into, left_by, ink_or_ends}
-use Rattle.strokes.proofs.Answer.{refused_by, fine_is}
+use Rattle.strokes.proofs.Answer.{refused_by}
 use Rattle.strokes.proofs.strokes.Goals as goal
 
 pub returns-in_default : goal.returns-in_default
@@ -58,13 +58,6 @@ returns-then-any_bend c =
     let (told, ends) = refused_by Bend (stroke_ends a.s.now a.list.now (nat_abs a.tolerance)) a.ends.now
     (stopped _ Bend _ bend ∙ passed _ Grain _ grain ∙ let_on most_points a.s.now a.list.now c.in-Ok.sheet o c.in_ok-laid.laid l _) in
     record { told = told; ends = ends }
-
-pub invariant_of-drawing : goal.invariant_of-drawing
-invariant_of-drawing c =
-    let a = c.args in
-    let same : read a.tolerance ≡ a.tolerance = back refl c.ranges.tolerance in
-    let fine = fine_is a.tolerance (grain_said a.tolerance c.ranges.tolerance c.grain_outside.ensures c.if-grain_outside.false) in
-    record { fine = omega (arith, fine.1, ap nat_abs same); bends = sym c.any_bend.ensures ∙ c.if-any_bend.false }
 
 pub returns : goal.returns
 unfolding strokes_answer drawn_into

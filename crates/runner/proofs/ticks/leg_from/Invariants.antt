@@ -5,4 +5,4 @@ use Rattle.sheet.specs.Fields.{leg}
 use Rattle.runner.proofs.ticks.leg_from.Given as goal
 
 abbrev pub invariant-loop-i : goal.invariant-loop-i
-invariant-loop-i l = record { is_sum : l.start ≡ sum_below (leg l.s) l.i; from : l.start ≤ l.tick }
+invariant-loop-i l = record { is_sum : l.start ≡ sum_below (leg l.sheet.bytes.now) l.i; from : l.start ≤ l.tick }

@@ -25,13 +25,10 @@ invariant_of-tabled c =
           (place_small s a l.laid.list.now i l.fits l.inside (rw (← l.is_end) l.end_fits) axis u k (omega (arith, l.is_ticks)));
     }
 
-pub cut-requires : goal.cut-requires
-cut-requires c =
-    let l = c.args.leg.now in let s = l.laid.sheet.bytes.now in let a = l.laid.sheet.accepted in let on = c.requires.1 in
-    record {
-      stretch = (omega (arith, l.is_ticks, (accepted_bounds s a).leg_low l.start l.fits), omega arith);
-      count = omega (arith, l.is_ticks, on.starts, on.counted, leg_ends_by s a l.start l.fits);
-    }
+pub cut-requires-clause-stretch : goal.cut-requires-clause-stretch
+cut-requires-clause-stretch c =
+    let l = c.args.leg.now in let o = l.laid.sheet in
+    (omega (arith, l.is_ticks, (accepted_bounds o.bytes.now o.accepted).leg_low l.start l.fits), omega arith)
 
 -- the strokes by the table are those by the places
 ends_are : {s : List ℕ} (list : List ℤ) {places : List (List ℤ)} {i from n h : ℕ} (t : ℕ) → OnLegOf s i from n → h ≡ leg s i → Table places h (places_on s list i)

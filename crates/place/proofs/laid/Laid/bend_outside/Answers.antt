@@ -1,29 +1,15 @@
--- `bend_outside`: the question of each axis in turn.
-use Rattle.std.proofs.Common.{◌≡◌, ◌||◌, ◌∙◌, ℕ, Bool, true, false, refl, rules, tests}
-use Rattle.std.specs.List.{list_any, range_with_len}
-use Rattle.std.proofs.lemmas.Iterator.{YieldsList-from_range}
-use Rattle.std.proofs.lemmas.Iterator.Search.{any_from_yields_List}
+-- `bend_outside`: the numbers at the leg's two ends.
+use Rattle.std.proofs.Common.{◌||◌, ◌∙◌, ◌+◌, ◌*◌}
 use Rattle.sheet.specs.Bytes.{any_below}
-use Rattle.place.specs.Places.{bend_of, beyond, bend_outside}
+use Rattle.systems.specs.Passes.{at}
+use Rattle.place.specs.Places.{beyond, bend_outside}
 use Rattle.place.proofs.Fitting.{end_is}
 use Rattle.place.proofs.laid.Laid.bend_outside.Goals as goal
-
-one_of_three : (a b c : Bool) → (a || (b || (c || false))) ≡ (((false || a) || b) || c)
-one_of_three true b c = refl
-one_of_three false true c = refl
-one_of_three false false true = refl
-one_of_three false false false = refl
-
-any_of_three : (p : ℕ → Bool) → list_any p (range_with_len 0 3) ≡ any_below p 3
-unfolding any_below
-any_of_three p = one_of_three (p 0) (p 1) (p 2)
 
 pub returns : goal.returns
 unfolding bend_outside
 returns c =
     let l = c.args.self.now in let s = l.sheet.bytes.now in let list = l.list.now in let i = c.args.i in
-    let asked : ℕ → Bool = λ axis. beyond (bend_of s list axis i) || beyond (bend_of s list axis c.end_of-end.result) in
     let end = c.end_of-end.ensures.0 ∙ end_is s l.sheet.points i l.sheet.is_points in
-    any_from_yields_List asked _ _ _ c.any.ensures.ran (YieldsList-from_range 0 3 _ refl refl) (λ x b q k. search (rules, tests))
-    ∙ any_of_three asked
-    ∙ (λ j. any_below (λ axis. beyond (bend_of s list axis i) || beyond (bend_of s list axis (end j))) 3)
+    c.bend_outside.ensures
+    ∙ (λ j. any_below (λ axis. beyond (at list (axis * l.sheet.is_points j + i)) || beyond (at list (axis * l.sheet.is_points j + end j))) 3)
