@@ -1,12 +1,12 @@
 -- A list's own question (`any`) is the definition's, asked at each place below its length (sheet's specs/Bytes): of its elements, of them with their places,
 -- and of its threes. For the proofs of tested.
 use mathlib.Core.Path.{◌≡◌, refl, sym, ap, ◌∙◌, subst}
-use mathlib.Core.Bool.{Bool, ◌||◌, or-false, or_assoc}
+use mathlib.Core.Bool.{Bool, false, ◌||◌, or-false, or_assoc}
 use mathlib.Core.List.{List, [], ◌∷◌, ◌++◌}
 use Prim.Native.Nat.{ℕ, zero, suc, ◌+◌, ◌*◌, ◌/◌, ◌<◌}
 use native.Mathlib.Omega.{arith}
 use lib.ListN.{length, get_or}
-use Rattle.std.specs.List.{list_any, enumerate_from}
+use Rattle.std.specs.List.{fold, list_any, enumerate_from}
 use Rattle.std.specs.Slice.Iter.{chunks_exact_rest, chunks_exact_size, chunks_exact_steps}
 use Rattle.std.proofs.lemmas.Iterator.{YieldsList}
 use Rattle.std.proofs.lemmas.Iterator.Splits.{YieldsList-from_shown_while}
@@ -23,6 +23,14 @@ module _ {A : Type 0} where
   unfolding any_below
   any_is test [] d = refl
   any_is test (x ∷ xs) d = ap (λ b. test x || b) (any_is test xs d) ∙ sym (any_first (λ i. test (get_or (x ∷ xs) i d)) (length xs))
+
+  -- .. also where the answers are gathered one by one, without a stop at the first that holds
+  gathered : (test : A → Bool) (b : Bool) (xs : List A) → fold (λ (c : Bool) x. c || test x) b xs ≡ (b || list_any test xs)
+  gathered test b [] = sym (or-false b)
+  gathered test b (x ∷ xs) = gathered test (b || test x) xs ∙ or_assoc b (test x) (list_any test xs)
+
+  pub folded_is : (test : A → Bool) (xs : List A) (d : A) → fold (λ (c : Bool) x. c || test x) false xs ≡ any_below (λ i. test (get_or xs i d)) (length xs)
+  folded_is test xs d = gathered test false xs ∙ any_is test xs d
 
   -- of the elements with their places, the first at n
   enumerated_from : (test : ℕ → A → Bool) (xs : List A) (d : A) (n : ℕ)

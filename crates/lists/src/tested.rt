@@ -11,11 +11,12 @@ use crate::LentLists;
 use ends::EndKind;
 use sheet::{MOST_POINTS, Refusal};
 
-// N6, of all legs.
+// N6, of all legs. (By `fold`, which goes on past one that is outside: so the compiler takes several at a time, and `any` takes nearly three times as long.)
 fn legs_outside(legs: &[u64]) -> bool
     ensures { result ≡ some_leg_outside legs.now }
 {
-    legs.iter().any(|leg| sheet::leg_outside(*leg))
+    legs.iter()
+        .fold(false, |some, leg| some | sheet::leg_outside(*leg))
 }
 
 // N7, of one waypoint: north, east and up.
