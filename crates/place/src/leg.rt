@@ -24,6 +24,7 @@ pub struct Leg<'a> {
 
 impl<'a> Laid<'a> {
     // Leg `i`, of which 12 was asked.
+    #[tactic(auto, using(crate::proofs::Fitting::few_legs, crate::proofs::Fitting::room, crate::proofs::Fitting::end_is))]
     pub fn leg(&self, i: usize) -> Leg<'a>
         requires fits { i < legs_of self.now.sheet.bytes.now }
         requires inside { bend_outside self.now.sheet.bytes.now self.now.list.now i ≡ false }
@@ -40,6 +41,7 @@ impl<'a> Laid<'a> {
 
 impl Leg<'_> {
     // The leg's numbers on an axis: 0 is north, 1 east, 2 up.
+    #[tactic(auto, using(crate::proofs::Fitting::few_legs, crate::proofs::Fitting::room))]
     pub fn numbers_on(&self, axis: usize) -> LegNumbers
         requires { axis < 3 }
         ensures h { result.h ≡ self.now.ticks }
@@ -57,6 +59,7 @@ impl Leg<'_> {
     }
 
     // The place's number on an axis (P1), `offset` ticks along the leg.
+    #[tactic(auto, using(integers::proofs::Made::passed), unfolding(crate::specs::Places::place_on))]
     pub fn place_on(&self, offset: u64, axis: usize) -> i64
         requires { (offset ≤ self.now.ticks) × (axis < 3) }
         ensures { result ≡ place_on self.now.laid.sheet.bytes.now self.now.laid.list.now (runner self.now.start offset) axis }
