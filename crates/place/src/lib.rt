@@ -12,7 +12,7 @@ ghost use Rattle.place.specs.Places.{told_placed, bend_or_place, place_at_tick, 
 
 pub use bends::{bend_outside, is_short};
 pub use laid::Laid;
-pub use leg::Leg;
+pub use leg::{Leg, LegEnds};
 pub use numbers::LegNumbers;
 use runner::Runner;
 use sheet::{MOST_POINTS, Refusal, SUMS};

@@ -26,7 +26,7 @@ numbers_made s a list i e h axis fits inside on is_end end_fits is_ticks v w z y
 
 pub invariant_of-result : goal.invariant_of-result
 invariant_of-result c =
-    let l = c.args.self.now in let o = l.laid.sheet in record {
+    let l = c.args.self.now in let o = l.laid.sheet in let e = c.ends_on-v.ensures in record {
       within = numbers_made o.bytes.now o.accepted l.laid.list.now l.start l.end l.ticks c.args.axis l.fits l.inside c.requires l.is_end l.end_fits l.is_ticks
-          c.waypoint_on-v.ensures c.waypoint_on-w.ensures c.bend_of-z.ensures c.bend_of-y.ensures;
+          e.ends.0 e.ends.1 e.bends.0 e.bends.1;
     }
