@@ -6,7 +6,8 @@ ghost use Rattle.std.specs.Prelude.{◌≡◌, [], ◌∷◌, length};
 ghost use Rattle.sheet.specs.Answers.{told};
 ghost use Rattle.sheet.specs.Reading.{most_points, read_sheet};
 ghost use Rattle.lists.specs.Lists.{lists};
-ghost use Rattle.lists.specs.Answer.{told_written, write_sheet};
+ghost use Rattle.answers.specs.Answers.{told_count};
+ghost use Rattle.lists.specs.Answer.{write_sheet};
 ghost use Rattle.writer.specs.Writing.{written_into};
 ghost use Rattle.join.specs.Joining.{join_sheets, joined_into};
 ghost use Rattle.layout.specs.Layout.{lay_out, laid_out};
@@ -17,15 +18,11 @@ ghost use Rattle.place.specs.Places.{place_at_tick, place_of_runner};
 ghost use Rattle.seat.specs.Serving.{told_next};
 ghost use Rattle.fleet.specs.Round.{round_answer, turn_given};
 ghost use Rattle.fleet.specs.Numbers.{records, numbers_after};
-ghost use Rattle.strokes.specs.Strokes.{told_strokes, strokes_answer, drawn_into};
+ghost use Rattle.strokes.specs.Strokes.{strokes_answer, drawn_into};
 ghost use Rattle.boundary.specs.Written.{put, written, written_unsigned, moved_slice};
 
-use boundary::{no_runner, tell_place, tell_runner};
-use lists::Written;
-use runner::Runner;
-use seat::NextTurn;
-use sheet::{MOST_POINTS, number_of};
-use strokes::StrokesAnswer;
+use boundary::{lent_runner, put, tell, tell_place, tell_runner};
+use sheet::{MOST_POINTS, Refusal};
 
 // out = kind, N, P
 #[unsafe(no_mangle)]
@@ -98,31 +95,17 @@ pub extern "C" fn station_back(sheet: &[u8], lent: &mut [u64]) -> u64
     ensures answer { result ≡ (moved_slice most_points backed sheet.now lent.old).number }
     ensures lent { lent.new ≡ written_unsigned (moved_slice most_points backed sheet.now lent.old) lent.old }
 {
-    if lent.len() < 3 {
-        return tell_runner(no_runner(MOST_POINTS, sheet), lent);
-    }
-    let leg = lent[0];
-    let offset = lent[1];
-    let laps = lent[2];
-    tell_runner(runner::backed(sheet, Runner { leg, offset, laps }), lent)
-}
-
-// One result at the front of a slice that has room for it.
-fn put_one(out: &mut [u64], a: u64)
-    ensures { out.new ≡ put (a ∷ []) out.old }
-{
-    if 1 <= out.len() {
-        out[0] = a;
-    }
+    let answer = lent_runner(MOST_POINTS, sheet, lent);
+    tell_runner(answer.and_then(|at| runner::backed(sheet, at)), lent)
 }
 
 // The next turn into the slice, if there is one.
-fn tell_turn(next: NextTurn, out: &mut [u64])
+#[tactic(auto, unfolding(boundary::specs::Written::put))]
+fn tell_turn(next: Option<u64>, out: &mut [u64])
     ensures { out.new ≡ put (told_next next) out.old }
 {
-    match next {
-        NextTurn::Seat(turn) => put_one(out, turn),
-        NextTurn::None => {}
+    if let Some(turn) = next {
+        put(out, [turn]);
     }
 }
 
@@ -142,24 +125,23 @@ pub extern "C" fn station_round(
     ensures next { next.new ≡ put (turn_given sheet.now list.now (records lent.old) turn) next.old }
 {
     let answer = fleet::round_numbers(sheet, list, lent, turn);
-    let given = answer.next;
-    tell_turn(given, next);
-    let placed = answer.placed;
-    tell_place(placed, place)
+    tell_turn(answer.next, next);
+    tell_place(answer.placed, place)
 }
 
-// The length into the slice, or the refusal's number.
-fn tell_written(answer: Written, out: &mut [u64]) -> u64
-    ensures answer { result ≡ (told_written answer).number }
-    ensures out { out.new ≡ written_unsigned (told_written answer) out.old }
+// A count alone.
+fn count_number(count: usize) -> [u64; 1]
+    ensures { result ≡ count ∷ [] }
 {
-    match answer {
-        Written::Length(size) => {
-            put_one(out, size as u64);
-            0
-        }
-        Written::Refused(r) => number_of(r),
-    }
+    [count as u64]
+}
+
+// How many bytes or stroke ends, into the slice, or the refusal's number.
+fn tell_count(answer: Result<usize, Refusal>, out: &mut [u64]) -> u64
+    ensures answer { result ≡ (told_count answer).number }
+    ensures out { out.new ≡ written_unsigned (told_count answer) out.old }
+{
+    tell(answer.map(count_number), out)
 }
 
 // out = the length of the sheet, which stands at the front of `sheet`; it is written there whether or not `out` has room
@@ -176,7 +158,7 @@ pub extern "C" fn station_write(
     ensures sheet { sheet.new ≡ written_into (lists kind legs.now waypoints.now slopes.now) sheet.old }
     ensures out { out.new ≡ written_unsigned (write_sheet (lists kind legs.now waypoints.now slopes.now) (length sheet.old)) out.old }
 {
-    tell_written(writer::write(kind, legs, waypoints, slopes, sheet), out)
+    tell_count(writer::write(kind, legs, waypoints, slopes, sheet), out)
 }
 
 // out = the length of the joined sheet, which stands at the front of `sheet`; it is written there whether or not `out` has room
@@ -191,21 +173,7 @@ pub extern "C" fn station_join(
     ensures sheet { sheet.new ≡ joined_into first.now second.now sheet.old }
     ensures out { out.new ≡ written_unsigned (join_sheets first.now second.now (length sheet.old)) out.old }
 {
-    tell_written(join::join(first, second, sheet), out)
-}
-
-// How many ends into the slice, or the refusal's number.
-fn tell_strokes(answer: StrokesAnswer, out: &mut [u64]) -> u64
-    ensures answer { result ≡ (told_strokes answer).number }
-    ensures out { out.new ≡ written_unsigned (told_strokes answer) out.old }
-{
-    match answer {
-        StrokesAnswer::Ends(count) => {
-            put_one(out, count as u64);
-            0
-        }
-        StrokesAnswer::Refused(r) => number_of(r),
-    }
+    tell_count(join::join(first, second, sheet), out)
 }
 
 // out = how many stroke ends stand at the front of `ends`; they are written there whether or not `out` has room
@@ -221,5 +189,5 @@ pub extern "C" fn station_strokes(
     ensures ends { ends.new ≡ drawn_into sheet.now list.now tolerance ends.old }
     ensures out { out.new ≡ written_unsigned (strokes_answer sheet.now list.now tolerance (length ends.old)) out.old }
 {
-    tell_strokes(strokes::strokes(sheet, list, tolerance, ends), out)
+    tell_count(strokes::strokes(sheet, list, tolerance, ends), out)
 }

@@ -13,6 +13,7 @@ use runner::Runner;
 use seat::{RoundAnswer, serve, turned_away};
 
 // F9: over a lent list of records, one to a seat. Tests 1 to 9, 19, 20, then 11, 13, 12 of the seat; a refused call leaves the list as it was.
+#[tactic(auto, using(crate::proofs::Lent::away_told, crate::proofs::Lent::away_kept, crate::proofs::Lent::seat_set))]
 pub fn round(s: &[u8], list: &[i64], fleet: &mut [Runner], turn: u64) -> RoundAnswer
     ensures told { told_placed result.placed ≡ round_answer s.now list.now fleet.old turn }
     ensures next { told_next result.next ≡ turn_given s.now list.now fleet.old turn }

@@ -9,6 +9,7 @@ use runner::Runner;
 use seat::{RoundAnswer, serve, turned_away};
 
 // The record of a seat, if the turn is one's.
+#[tactic(auto, using(crate::proofs::Triples::count_is, crate::proofs::Triples::seat_lent))]
 fn record_at(lent: &[u64], turn: u64) -> Option<Runner>
     ensures { MatchOption result (length lent.now / 3 ≤ turn) (λ r. (turn < length lent.now / 3) × (r ≡ seat_of (records lent.now) turn)) }
 {
@@ -23,6 +24,7 @@ fn record_at(lent: &[u64], turn: u64) -> Option<Runner>
 }
 
 // A seat's record set to this one.
+#[tactic(auto, using(crate::proofs::Triples::count_is, crate::proofs::Triples::set_numbers))]
 fn put_record(lent: &mut [u64], turn: u64, at: Runner)
     requires { turn < length lent.old / 3 }
     ensures { lent.new ≡ with_records lent.old (set (records lent.old) turn at) }
@@ -33,6 +35,7 @@ fn put_record(lent: &mut [u64], turn: u64, at: Runner)
     lent[first + 2] = at.laps;
 }
 
+#[tactic(auto, using(crate::proofs::Triples::count_is, crate::proofs::Triples::kept_numbers, crate::proofs::Lent::away_told, crate::proofs::Lent::away_kept, crate::proofs::Lent::seat_set), unfolding(crate::specs::Numbers::numbers_after))]
 pub fn round_numbers(s: &[u8], list: &[i64], lent: &mut [u64], turn: u64) -> RoundAnswer
     ensures told { told_placed result.placed ≡ round_answer s.now list.now (records lent.old) turn }
     ensures next { told_next result.next ≡ turn_given s.now list.now (records lent.old) turn }

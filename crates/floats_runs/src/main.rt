@@ -21,6 +21,9 @@ use std::io::Read;
 // How many sheets of each kind are made.
 const MADE: u64 = 1000;
 
+// How many bytes of the worked courses are read at most.
+const MOST_READ: u64 = 65536;
+
 // Adds the sheets that stand one after another in a text.
 fn add_worked(seen: &mut Seen, text: &[u8]) {
     let mut rest = text;
@@ -44,8 +47,13 @@ fn show<R: Print + Alloc>(rt: &R, name: &str, kind: EndKind, worked: &[u8]) -> i
         seen.add(&sheets::make(rt.alloc(), &mut drawing, kind)?);
     }
     let sheets = seen.sheets;
-    // in thousandths of an eighth, rounded up: it is written as in 7.043
-    let largest = std::num::saturating_f64_to_u64((8000.0 * seen.largest).ceil());
+    // in thousandths of an eighth, rounded up: it is written as in 7.043; one too large for that is written as 0
+    let whole = (8000.0 * seen.largest).ceil();
+    let largest = if whole < 18446744073709551616.0 {
+        std::num::saturating_f64_to_u64(whole)
+    } else {
+        0
+    };
     let verdict = if seen.beyond { "BEYOND" } else { "within" };
     println!(rt;
         "{name}: {sheets} sheets, largest difference {}.{:03} eighths, {verdict} 9",
@@ -56,7 +64,7 @@ fn show<R: Print + Alloc>(rt: &R, name: &str, kind: EndKind, worked: &[u8]) -> i
 
 fn main(rt: HostRuntime) -> io::Result<()> {
     let mut worked = Vec::new(rt.alloc());
-    rt.stdin().read_to_end(&mut worked)?;
+    rt.stdin().take(MOST_READ).read_to_end(&mut worked)?;
     show(&rt, "free", EndKind::Free, &worked)?;
     show(&rt, "held", EndKind::Held, &worked)?;
     show(&rt, "closed", EndKind::Closed, &worked)

@@ -1,6 +1,5 @@
 -- The definitions' digits are those that std's `{}` writes.
-use mathlib.Core.Path.{◌≡◌, sym, ap, ◌∙◌}
-use mathlib.Core.List.{List, ◌++◌, append_assoc}
+use mathlib.Core.Path.{◌≡◌, sym, ap}
 use Prim.Native.Nat.{ℕ, suc, ◌^◌, ◌<◌}
 use lib.IntN.{ℤ, pos, negsuc}
 use lib.Signed.{mag}
@@ -23,11 +22,6 @@ pub signed_as_std : (z : ℤ) → mag z < 2 ^ 63 → std_signed z ≡ signed z
 unfolding signed
 signed_as_std (pos n) h = as_std n (omega arith)
 signed_as_std (negsuc n) h = ap (λ l. 45 ∷ l) (as_std (suc n) (omega arith))
-
--- two texts that are put one after the other are one
-pub followed : (front first : List ℕ) {middle whole second text : List ℕ}
-    → middle ≡ front ++ first → whole ≡ middle ++ second → second ≡ text → whole ≡ front ++ (first ++ text)
-followed front first {text = text} e q same = q ∙ (λ i. e i ++ same i) ∙ append_assoc front first text
 
 -- a callee has a signed number from its bits
 pub column : (z : ℤ) → SFits w64 z → 32 ∷ signed (to_z w64 (of_z w64 z)) ≡ 32 ∷ signed z

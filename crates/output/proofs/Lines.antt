@@ -1,5 +1,5 @@
 -- One line more in the buffer is one line less to come.
-use mathlib.Core.Path.{◌≡◌, refl, sym, ap, ◌∙◌}
+use mathlib.Core.Path.{◌≡◌, sym, ap, subst, ◌∙◌}
 use mathlib.Core.Bool.{cond}
 use mathlib.Core.List.{List, [], ◌++◌, append_assoc}
 use Prim.Native.Nat.{ℕ, suc, ◌+◌, ◌-◌, ◌<◌}
@@ -7,14 +7,11 @@ use native.Mathlib.Numerals.{add-one}
 use native.Mathlib.Omega.{arith}
 use lib.Dec.{eqb}
 use lib.IntN.{ℤ}
-use mir.Syntax.{w64}
-use mir.Val.{SFits, to_z, of_z}
-use Rattle.integers.proofs.Machine.{back}
-use Rattle.systems.specs.Passes.{at}
-use Rattle.answers.specs.declared.Outcome.{Outcome}
-use Rattle.answers.specs.declared.Outcome.TheVariants.{Done}
-use Rattle.lines.specs.Lines.{line}
-use Rattle.place.specs.Places.{told_by, place_at_tick}
+use Rattle.place.specs.Places.{told_placed, place_at_tick}
+use Rattle.place.specs.declared.Place.{Place}
+use Rattle.sheet.specs.declared.Refusal.{Refusal}
+use Rattle.std.specs.Prelude.{Result, Ok}
+use Rattle.output.specs.Pieces.{PieceOf}
 use Rattle.output.specs.Output.{line_of, line_at, lines_from}
 
 module _ (s : List ℕ) (list : List ℤ) where
@@ -38,12 +35,13 @@ module _ (s : List ℕ) (list : List ℤ) where
       ∙ ap (λ l. before ++ l) (sym (lines_step tick end h))
       ∙ e
 
--- the line of an answered place, whose numbers the callee has from their bits
-module _ (tick : ℕ) (place : List ℤ) (north : SFits w64 (at place 0)) (east : SFits w64 (at place 1)) (up : SFits w64 (at place 2)) where
-  from_bits : line tick (to_z w64 (of_z w64 (at place 0))) (to_z w64 (of_z w64 (at place 1))) (to_z w64 (of_z w64 (at place 2))) ≡ line_of tick place
-  from_bits i = line tick (back refl north i) (back refl east i) (back refl up i)
+-- the line of an answered place
+pub line_answered : (s : List ℕ) (list : List ℤ) (tick : ℕ) {answer : Result Place Refusal} (place : Place) → answer ≡ Ok place → told_placed answer ≡ place_at_tick s list tick
+    → line_of tick place.at ≡ line_at s list tick
+unfolding line_at
+line_answered s list tick place done told = ap (λ t. cond (eqb t.number 0) (line_of tick t.values) []) (rw done at told)
 
-  pub line_answered : (s : List ℕ) (list : List ℤ) {outcome : Outcome} → outcome ≡ Done → told_by outcome place ≡ place_at_tick s list tick
-      → line tick (to_z w64 (of_z w64 (at place 0))) (to_z w64 (of_z w64 (at place 1))) (to_z w64 (of_z w64 (at place 2))) ≡ line_at s list tick
-  unfolding line_at
-  line_answered s list done told = from_bits ∙ ap (λ t. cond (eqb t.number 0) (line_of tick t.values) []) (rw done at told)
+-- where the last line is put, nothing is to come
+pub ended : {s : List ℕ} {list : List ℤ} {buffer : List ℕ} {bytes next end : ℕ} {remains : List ℕ} → next ≡ end → PieceOf s list buffer bytes next end remains
+    → PieceOf s list buffer bytes end end remains
+ended {s} {list} {buffer} {bytes} {next} {end} {remains} e p = subst (λ k. PieceOf s list buffer bytes k end remains) e p

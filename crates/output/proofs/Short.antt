@@ -10,14 +10,14 @@ use lib.ListN.{length, length-append}
 use Rattle.systems.specs.Passes.{at}
 use Rattle.sheet.specs.Reading.{longest_sheet, read_sheet}
 use Rattle.sheet.specs.declared.Refusal.TheVariants.{Torn}
-use Rattle.sheet.specs.declared.Reading.{Reading}
-use Rattle.sheet.specs.declared.Reading.TheVariants.{Course, Refused}
+use Rattle.std.specs.Prelude.{Ok, Err}
+use Rattle.sheet.specs.Answers.{Reading}
 use Rattle.sheet.proofs.Laws.{read_accepted, accepted_bounds}
 use Rattle.layout.specs.Layout.{laid_out}
 use Rattle.lines.proofs.Room.{line_short}
 use Rattle.place.specs.Places.{place_at_tick}
 use Rattle.words.specs.Words.{refusal_line}
-use Rattle.words.proofs.Rows.{refusal_short}
+use Rattle.words.proofs.Short.{refusal_short}
 use Rattle.output.specs.Output.{header, line_of, line_at, lines_from, lent_list, output_by, output}
 
 -- the lines of all ticks, and the header
@@ -42,16 +42,16 @@ module _ (s : List ℕ) (list : List ℤ) where
       omega (arith, length-append (line_at s list tick) (lines_from s list (suc tick) count), line_at_short tick, lines_short (suc tick) count)
 
 short_by : (s : List ℕ) (r : Reading) → read_sheet s ≡ r → length (output_by r s) ≤ most
-short_by s (Course k n p) e =
-    let a = read_accepted _ s k n p e in
+short_by s (Ok c) e =
+    let a = read_accepted _ s c.kind c.points c.ticks e in
     omega (
       arith,
-      length-append header (lines_from s (laid_out s lent_list) 0 (suc p)),
-      lines_short s (laid_out s lent_list) 0 (suc p),
+      length-append header (lines_from s (laid_out s lent_list) 0 (suc c.ticks)),
+      lines_short s (laid_out s lent_list) 0 (suc c.ticks),
       a.3,
       (accepted_bounds s a.0).few_ticks,
     )
-short_by s (Refused r) e = omega (arith, refusal_short r)
+short_by s (Err r) e = omega (arith, refusal_short r)
 
 pub output_short : (input : List ℕ) → length (output input) ≤ most
 unfolding output

@@ -1,10 +1,9 @@
 -- The stand's whole output, byte for byte, for any input (T1 to T4). For the stand's program.
-use Rattle.std.specs.Prelude.{cond, List, [], ◌++◌, ℕ, zero, suc, eqb, ltb, ℤ, pos, length, replicate}
+use Rattle.std.specs.Prelude.{cond, List, [], ◌++◌, ℕ, zero, suc, eqb, ltb, ℤ, pos, length, replicate, Ok, Err}
 use Rattle.systems.specs.Passes.{at}
 use Rattle.sheet.specs.Reading.{longest_sheet, read_sheet}
 use Rattle.sheet.specs.declared.Refusal.TheVariants.{Torn}
-use Rattle.sheet.specs.declared.Reading.{Reading}
-use Rattle.sheet.specs.declared.Reading.TheVariants.{Course, Refused}
+use Rattle.sheet.specs.Answers.{Reading}
 use Rattle.layout.specs.Layout.{laid_out}
 use Rattle.lines.specs.Ascii.{ascii}
 use Rattle.lines.specs.Lines.{line}
@@ -32,10 +31,10 @@ lines_from s list tick (suc count) = line_at s list tick ++ lines_from s list (s
 abbrev pub lent_list : List ℤ
 lent_list = replicate 1536 (pos 0)
 
--- T2 or T4, by what reading answers: for a course of p ticks the header and the lines of the ticks 0 to p, from the bend numbers that laying out leaves
+-- T2 or T4, by what reading answers: for a course the header and the lines of the ticks 0 to P, from the bend numbers that laying out leaves
 abbrev pub output_by : Reading → List ℕ → List ℕ
-output_by (Course k n p) s = header ++ lines_from s (laid_out s lent_list) 0 (suc p)
-output_by (Refused r) s = refusal_line r
+output_by (Ok c) s = header ++ lines_from s (laid_out s lent_list) 0 (suc c.ticks)
+output_by (Err r) s = refusal_line r
 
 -- T1: an input longer than any accepted sheet is torn
 unfoldable pub output : List ℕ → List ℕ

@@ -1,13 +1,13 @@
 // The stand's output in pieces, each put into a lent buffer: the header or a refusal's line, then the lines of successive ticks (T1 to T4). For the stand.
 #![tactic(auto)]
 
-ghost use Rattle.std.specs.Prelude.{◌≡◌, ◌⊎◌, ◌+◌, ◌-◌, ◌≤◌, ◌<◌, length, take};
+ghost use Rattle.std.specs.Prelude.{◌≡◌, ◌⊎◌, ◌++◌, ◌+◌, ◌-◌, ◌≤◌, ◌<◌, length, take};
 ghost use Rattle.output.specs.Output.{lines_from, lent_list, output};
 ghost use Rattle.words.specs.Words.{refusal_line};
 ghost use Rattle.output.specs.Pieces.{AllAnswered, PieceOf};
 
-use answers::Outcome;
-use sheet::{LONGEST_SHEET, Reading, Refusal};
+use lines::{LINE_ROOM, Text};
+use sheet::{LONGEST_SHEET, MOST_POINTS, Refusal};
 
 // The bytes of a piece, and the ticks whose lines come after it: `next` to before `end`.
 #[derive(Clone, Copy)]
@@ -17,23 +17,15 @@ pub struct Piece {
     pub end: u64,
 }
 
-// Puts a text at the buffer's front, and answers its length.
-fn put_text(text: &[u8], out: &mut [u8]) -> usize
-    requires { length text.now ≤ length out.old }
-    ensures { (result ≤ length out.new) × (take result out.new ≡ text.now) }
-{
-    let count = text.len();
-    out[..count].copy_from_slice(text);
-    count
-}
-
 // A refusal's line is all there is.
 fn refused(out: &mut [u8], refusal: Refusal) -> Piece
     requires { 19 ≤ length out.old }
     ensures { (result.next ≡ 0) × (result.end ≡ 0) × (result.bytes ≤ length out.new) × (take result.bytes out.new ≡ refusal_line refusal) }
 {
+    let mut text = Text { bytes: out, len: 0 };
+    words::put_refusal(&mut text, refusal);
     Piece {
-        bytes: words::put_refusal(out, refusal),
+        bytes: text.len,
         next: 0,
         end: 0,
     }
@@ -49,24 +41,41 @@ pub fn begin(input: &[u8], list: &mut [i64], out: &mut [u8]) -> Piece
     if LONGEST_SHEET < input.len() {
         return refused(out, Refusal::Torn);
     }
-    let reading = sheet::read(input);
-    let Reading::Course {
-        kind: _,
-        points: _,
-        ticks,
-    } = reading
-    else {
-        return refused(out, answers::refusal_of(reading));
+    let reading = answers::open(MOST_POINTS, input);
+    let Ok(sheet) = reading else {
+        return refused(out, reading.unwrap_err());
     };
-    layout::lay_out(input, list);
+    let _ = layout::lay_out(input, list);
+    let mut text = Text { bytes: out, len: 0 };
+    text.push(b"tick north east up\n");
     Piece {
-        bytes: put_text(b"tick north east up\n", out),
+        bytes: text.len,
         next: 0,
-        end: ticks + 1,
+        end: sheet.ticks + 1,
     }
 }
 
-// The lines of the ticks from `from` to before `end`, or of as many of them as there is room for.
+// Puts the lines of the ticks from `from` to before `end`, or of as many of them as there is room for, and answers the tick whose line comes next.
+fn push_lines(s: &[u8], list: &[i64], from: u64, end: u64, text: &mut Text<'_>) -> u64
+    requires { (from ≤ end) × AllAnswered s.now list.now end }
+    ensures piece_of { PieceOf s.now list.now text.new.bytes.now text.new.len result end
+        (take text.old.len text.old.bytes.now ++ lines_from s.now list.now from (end - from)) }
+    ensures same { text.new.bytes.ghost_name ≡ text.old.bytes.ghost_name }
+    ensures full { (result ≡ end) ⊎ (length text.new.bytes.now < text.new.len + 87) }
+{
+    for tick in from..end {
+        if text.bytes.len() - text.len < LINE_ROOM {
+            return tick;
+        }
+        let Ok(place) = place::place_at_tick(s, list, tick) else {
+            return tick;
+        };
+        lines::put_line(text, tick, place.at);
+    }
+    end
+}
+
+// The piece of these lines.
 pub fn put_lines(s: &[u8], list: &[i64], from: u64, end: u64, out: &mut [u8]) -> Piece
     requires { (from ≤ end) × AllAnswered s.now list.now end }
     ensures piece_of { PieceOf s.now list.now out.new result.bytes result.next result.end
@@ -74,32 +83,11 @@ pub fn put_lines(s: &[u8], list: &[i64], from: u64, end: u64, out: &mut [u8]) ->
     ensures ends { result.end ≡ end }
     ensures full { (result.next ≡ end) ⊎ (length out.new < result.bytes + 87) }
 {
-    let mut tick = from;
-    let mut at: usize = 0;
-    while tick < end {
-        if out.len() - at < lines::LINE_ROOM {
-            return Piece {
-                bytes: at,
-                next: tick,
-                end,
-            };
-        }
-        let placed = place::place_at_tick(s, list, tick);
-        let outcome = placed.outcome;
-        let Outcome::Done = outcome else {
-            return Piece {
-                bytes: at,
-                next: tick,
-                end,
-            };
-        };
-        let place = placed.place;
-        at = lines::put_line(out, at, tick, place.at[0], place.at[1], place.at[2]);
-        tick += 1;
-    }
+    let mut text = Text { bytes: out, len: 0 };
+    let next = push_lines(s, list, from, end, &mut text);
     Piece {
-        bytes: at,
-        next: tick,
+        bytes: text.len,
+        next,
         end,
     }
 }

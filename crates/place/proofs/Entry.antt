@@ -1,4 +1,4 @@
--- What the two entry points share: the first two links of their chain, reading's refusal and 9. Crates seat and strokes begin with the same two.
+-- The first two links of a call's chain, reading's refusal and 9, as crate strokes has them too.
 use mathlib.Core.Path.{◌≡◌, sym, ap, ◌∙◌}
 use mathlib.Core.Bool.{true}
 use mathlib.Core.List.{List}
@@ -13,11 +13,9 @@ use Rattle.answers.specs.Answers.{Answered, pass_on, guard}
 use Rattle.answers.specs.declared.opened.OpenSheet.{OpenSheet}
 use Rattle.answers.proofs.Guards.{opened_on, passed, stopped}
 use Rattle.layout.specs.Layout.{short}
-use Rattle.runner.specs.declared.Runner.{Runner}
-use Rattle.place.specs.Places.{bend_or_place}
 use Rattle.place.specs.declared.laid.Laid.{Laid}
 
--- an entry point's answer: reading's refusal, 9, or what comes behind them
+-- a call's answer: reading's refusal, 9, or what comes behind them
 abbrev pub behind : ℕ → List ℕ → List ℤ → Told → Told
 behind limit s list rest = pass_on (read_by limit s) (guard (short s (length list)) Shelf rest)
 
@@ -33,6 +31,3 @@ module _ (limit : ℕ) (s : List ℕ) (list : List ℤ) (sheet : OpenSheet) (e :
 
     pub let_on : (rest : Told) → rest ≡ behind limit s list rest
     let_on rest = passed (short s (length list)) Shelf rest (sym (λ i. short (bytes_are i) (length (l.1 i))) ∙ laid.room) ∙ opened_on limit s _ e.1
-
-    pub placed_there : (r : Runner) → bend_or_place laid.sheet.bytes.now laid.list.now r ≡ bend_or_place s list r
-    placed_there r = λ i. bend_or_place (bytes_are i) (l.1 i) r

@@ -45,14 +45,11 @@ module _ (s : List ℕ) (a : Accepted s) where
   pub few_points : points s ≤ 512
   few_points = bounds.few
 
-  pub point_fits : (i : ℕ) → i < legs s → i < points s
-  point_fits i h = omega (arith, legs_at_most (kind s) (points s))
+  pub few_legs : legs s ≤ points s
+  few_legs = legs_at_most (kind s) (points s)
 
-  pub leg_room : (i : ℕ) → i < legs s → 10 + 2 * i ≤ length s
-  leg_room i h = omega (arith, bounds.size)
-
-  pub waypoint_room : (l i : ℕ) → l ≡ legs s → i < points s → 8 + 2 * l + 12 * i + 12 ≤ length s
-  waypoint_room l i e h = omega (arith, bounds.size)
+  pub room : 8 + 2 * legs s + 12 * points s ≤ length s
+  room = omega (arith, bounds.size)
 
   -- sizes
   module _ (list : List ℤ) (i : ℕ) (fits : i < legs s) (inside : bend_outside s list i ≡ false) (axis : ℕ) (on : axis < 3) where
@@ -65,7 +62,7 @@ module _ (s : List ℕ) (a : Accepted s) where
       leg_low = bounds.leg_low i fits;
       leg_high = bounds.leg_high i fits;
       offset = omega arith;
-      start = bounds.reach axis i on (point_fits i fits);
+      start = bounds.reach axis i on (omega (arith, few_legs));
       end = bounds.reach axis (end_of s i) on h;
       start_bend = within_size (2 ^ 37) (bend_of s list axis i) (or_left _ _ within);
       end_bend = within_size (2 ^ 37) (bend_of s list axis (end_of s i)) (or_right (beyond (bend_of s list axis i)) _ within);

@@ -19,6 +19,7 @@ pub struct Laid<'a> {
 
 impl<'a> Laid<'a> {
     // N9, asked of a list.
+    #[tactic(auto, using(crate::proofs::Fitting::few_points))]
     pub fn on(sheet: OpenSheet<'a>, list: &'a [i64]) -> Result<Laid<'a>, Refusal>
         ensures ok { IfOk result (λ l. (l.sheet.bytes.now ≡ sheet.entry.bytes.now) × (l.list.now ≡ list.now)) }
         ensures err { IfErr result (λ r. (r ≡ Shelf) × (short sheet.entry.bytes.now (length list.now) ≡ true)) }
@@ -38,6 +39,7 @@ impl<'a> Laid<'a> {
     }
 
     // N12, of leg `i`: of the numbers at its two ends, on all axes.
+    #[tactic(auto, using(crate::proofs::Fitting::end_is), unfolding(crate::specs::Places::bend_outside))]
     pub fn bend_outside(&self, i: usize) -> bool
         requires { i < legs_of self.now.sheet.bytes.now }
         ensures { result ≡ bend_outside self.now.sheet.bytes.now self.now.list.now i }

@@ -22,8 +22,36 @@ pub struct Leg<'a> {
     pub ghost inside: { bend_outside laid.sheet.bytes.now laid.list.now start ≡ false },
 }
 
+// P1's numbers at a leg's two ends on one axis: the waypoints', and their bend numbers.
+#[derive(Clone, Copy)]
+pub struct LegEnds {
+    pub v: i64,
+    pub w: i64,
+    pub z: i64,
+    pub y: i64,
+}
+
 impl<'a> Laid<'a> {
+    // The numbers at the ends of leg `i`, also where 12 applies to it; `end` is the waypoint at its end, the same on all axes.
+    #[tactic(auto, using(crate::proofs::Fitting::few_legs, crate::proofs::Fitting::room))]
+    pub fn ends_on(&self, i: usize, end: usize, axis: usize) -> LegEnds
+        requires leg { (i < legs_of self.now.sheet.bytes.now) × (axis < 3) }
+        requires end { (end ≡ end_of self.now.sheet.bytes.now i) × (end < points_of self.now.sheet.bytes.now) }
+        ensures ends { (result.v ≡ waypoint self.now.sheet.bytes.now axis i) × (result.w ≡ waypoint self.now.sheet.bytes.now axis end) }
+        ensures bends { (result.z ≡ bend_of self.now.sheet.bytes.now self.now.list.now axis i) × (result.y ≡ bend_of self.now.sheet.bytes.now self.now.list.now axis end) }
+    {
+        let s = self.sheet.bytes;
+        let legs = self.sheet.legs();
+        LegEnds {
+            v: waypoint_on(s, legs, axis, i),
+            w: waypoint_on(s, legs, axis, end),
+            z: self.bend_of(axis, i),
+            y: self.bend_of(axis, end),
+        }
+    }
+
     // Leg `i`, of which 12 was asked.
+    #[tactic(auto, using(crate::proofs::Fitting::few_legs, crate::proofs::Fitting::room, crate::proofs::Fitting::end_is))]
     pub fn leg(&self, i: usize) -> Leg<'a>
         requires fits { i < legs_of self.now.sheet.bytes.now }
         requires inside { bend_outside self.now.sheet.bytes.now self.now.list.now i ≡ false }
@@ -46,17 +74,13 @@ impl Leg<'_> {
         ensures ends { (result.v ≡ waypoint self.now.laid.sheet.bytes.now axis self.now.start) × (result.w ≡ waypoint self.now.laid.sheet.bytes.now axis self.now.end) }
         ensures bends { (result.z ≡ bend_of self.now.laid.sheet.bytes.now self.now.laid.list.now axis self.now.start) × (result.y ≡ bend_of self.now.laid.sheet.bytes.now self.now.laid.list.now axis self.now.end) }
     {
-        let s = self.laid.sheet.bytes;
-        let legs = self.laid.sheet.legs();
         let h = self.ticks;
-        let v = waypoint_on(s, legs, axis, self.start);
-        let w = waypoint_on(s, legs, axis, self.end);
-        let z = self.laid.bend_of(axis, self.start);
-        let y = self.laid.bend_of(axis, self.end);
+        let LegEnds { v, w, z, y } = self.laid.ends_on(self.start, self.end, axis);
         LegNumbers { h, v, w, z, y }
     }
 
     // The place's number on an axis (P1), `offset` ticks along the leg.
+    #[tactic(auto, using(integers::proofs::Made::passed), unfolding(crate::specs::Places::place_on))]
     pub fn place_on(&self, offset: u64, axis: usize) -> i64
         requires { (offset ≤ self.now.ticks) × (axis < 3) }
         ensures { result ≡ place_on self.now.laid.sheet.bytes.now self.now.laid.list.now (runner self.now.start offset) axis }

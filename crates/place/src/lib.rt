@@ -12,7 +12,7 @@ ghost use Rattle.place.specs.Places.{told_placed, bend_or_place, place_at_tick, 
 
 pub use bends::{bend_outside, is_short};
 pub use laid::Laid;
-pub use leg::Leg;
+pub use leg::{Leg, LegEnds};
 pub use numbers::LegNumbers;
 use runner::Runner;
 use sheet::{MOST_POINTS, Refusal, SUMS};
@@ -24,7 +24,7 @@ pub struct Place {
 }
 
 // The place of a runner to which 11 does not apply; 12 is left to test.
-#[tactic(auto, using(crate::proofs::Fitting::leg_fits, crate::proofs::Fitting::offset_fits))]
+#[tactic(auto, using(crate::proofs::Fitting::leg_fits, crate::proofs::Fitting::offset_fits, integers::proofs::Made::passed), unfolding(crate::specs::Places::place_on))]
 pub fn place_at(laid: &Laid<'_>, at: Runner) -> Result<Place, Refusal>
     requires { adrift laid.now.sheet.bytes.now at ≡ false }
     ensures { told_placed result ≡ bend_or_place laid.now.sheet.bytes.now laid.now.list.now at }
@@ -44,6 +44,7 @@ pub fn place_at(laid: &Laid<'_>, at: Runner) -> Result<Place, Refusal>
 }
 
 // A4, on sheets with up to `limit` waypoints: tests 1 to 10 and 12.
+#[tactic(auto, using(runner::proofs::Entry::opening, runner::proofs::Standing::tick_stands), unfolding(crate::specs::Places::place_at_tick_by))]
 pub fn place_at_tick_by(limit: usize, s: &[u8], list: &[i64], tick: u64) -> Result<Place, Refusal>
     ensures { told_placed result ≡ place_at_tick_by limit s.now list.now tick }
 {
@@ -61,6 +62,7 @@ pub fn place_at_tick_by(limit: usize, s: &[u8], list: &[i64], tick: u64) -> Resu
 }
 
 // A5, on sheets with up to `limit` waypoints: tests 1 to 9, 11 and 12.
+#[tactic(auto, using(runner::proofs::Entry::opening), unfolding(crate::specs::Places::place_of_runner_by))]
 pub fn place_of_runner_by(
     limit: usize,
     s: &[u8],

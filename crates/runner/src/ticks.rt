@@ -58,7 +58,7 @@ fn sixteenth_at(sheet: &OpenSheet<'_>, sums: &[u32; SUMS], tick: u64) -> usize
 {
     let last = (sheet.legs() - 1) / STRIDE;
     for b in 0..last {
-        if tick < sums[b + 1] as u64 {
+        if tick < u64::from(sums[b + 1]) {
             return b;
         }
     }
@@ -101,7 +101,7 @@ pub fn spot_at(sheet: &OpenSheet<'_>, sums: &[u32; SUMS], tick: u64) -> Runner
     let here = reduced(sheet.kind, sheet.ticks, tick);
     let laps = laps_in(sheet.kind, sheet.ticks, tick);
     let b = sixteenth_at(sheet, sums, here);
-    leg_from(sheet, STRIDE * b, sums[b] as u64, here, laps)
+    leg_from(sheet, STRIDE * b, u64::from(sums[b]), here, laps)
 }
 
 // The runner from a tick (A6), on sheets with up to `limit` waypoints. Tests 1 to 8 and 10.

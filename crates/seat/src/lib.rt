@@ -40,6 +40,7 @@ fn next_turn(seats: usize, turn: u64) -> u64
 }
 
 // A14, before any seat: tests 1 to 9, 19 and 20.
+#[tactic(auto, using(runner::proofs::Entry::opening))]
 fn admitted<'a>(s: &'a [u8], list: &'a [i64], seats: usize, turn: u64) -> Result<Laid<'a>, Refusal>
     ensures { Admits s.now list.now seats turn result }
 {
@@ -58,6 +59,7 @@ fn admitted<'a>(s: &'a [u8], list: &'a [i64], seats: usize, turn: u64) -> Result
 }
 
 // The seat on a course that was admitted: 11, 13, then the step and the place there, or 12. A refused one stays where it was (A9).
+#[tactic(auto, using(runner::proofs::Onward::moved_fits, place::proofs::Fitting::leg_fits, answers::proofs::Guards::refused_keeps, answers::proofs::Guards::done_changes), unfolding(crate::specs::Serving::flown))]
 fn fly(laid: &Laid<'_>, at: &mut Runner) -> Result<Place, Refusal>
     ensures told { told_placed result ≡ flown laid.now.sheet.bytes.now laid.now.list.now at.old }
     ensures at { at.new ≡ cond (eqb (flown laid.now.sheet.bytes.now laid.now.list.now at.old).number 0) (moved laid.now.sheet.bytes.now at.old) at.old }
@@ -75,6 +77,7 @@ fn fly(laid: &Laid<'_>, at: &mut Runner) -> Result<Place, Refusal>
 }
 
 // A14: the turn `turn` of `seats`, taken by the runner `at`. Tests 1 to 9, 19, 20, then 11, 13, 12.
+#[tactic(auto, using(answers::proofs::Guards::refused_keeps, answers::proofs::Guards::done_changes), unfolding(crate::specs::Serving::served, crate::specs::Serving::turn_after, crate::specs::Serving::seat_after))]
 pub fn serve(s: &[u8], list: &[i64], seats: usize, turn: u64, at: Runner) -> SeatOutcome
     ensures told { told_placed result.answer.placed ≡ served s.now list.now seats turn at }
     ensures next { told_next result.answer.next ≡ turn_after s.now list.now seats turn }

@@ -1,5 +1,6 @@
 -- Laws of sheets, for the proofs of this crate and of the later ones.
 pub mod Below
+pub mod Ranges
 mod Four
 pub mod Carried
 pub mod Numbers

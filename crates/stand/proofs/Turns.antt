@@ -1,6 +1,5 @@
 -- Handing over piece after piece: what is written is the output from the place reached on, what remains begins after it, and where nothing remains all is handed over.
 use mathlib.Core.Path.{◌≡◌, sym, ap, ◌∙◌}
-use mathlib.Core.Bool.{Bool, true, false, cond}
 use mathlib.Core.List.{List}
 use mathlib.Core.Logic.{◌⊎◌, ⊎_elim}
 use Prim.Native.Nat.{ℕ, ◌+◌, ◌-◌, ◌≤◌, ◌<◌}
@@ -35,24 +34,17 @@ module _ {input : List ℕ} {list : List ℤ} {out : List ℕ} {bytes next end s
   }
 
   -- what a part's writing answers
-  module _ (failed : Bool) (handed : ℕ) (e : handed ≡ sent + cond failed 0 (length (take bytes out))) where
-    within : (b : Bool) → sent + cond b 0 (length (take bytes out)) ≤ length (output input)
-    within true = omega (arith, g.inside)
-    within false = part.inside
+  module _ (handed : ℕ) (e : handed ≡ sent + length (take bytes out)) where
+    handed_inside : handed ≤ length (output input)
+    handed_inside = omega (arith, e, part.inside)
 
-    pub handed_inside : handed ≤ length (output input)
-    handed_inside = omega (arith, e, within failed)
-
-    handed_all : failed ≡ false → handed ≡ sent + bytes
-    handed_all w = e ∙ ap (λ b. sent + cond b 0 (length (take bytes out))) w ∙ ap (λ k. sent + k) piece_length
-
-    pub nearer : failed ≡ false → 0 < bytes → length (output input) - handed < length (output input) - sent
-    nearer w some = omega (arith, handed_all w, handed_inside)
+    handed_all : handed ≡ sent + bytes
+    handed_all = e ∙ ap (λ k. sent + k) piece_length
 
     -- the next piece continues where this one ended
-    pub going_on : failed ≡ false → (out' : List ℕ) (bytes' next' end' : ℕ) → 65536 ≡ length out' → PieceOf input list out' bytes' next' end' later → end' ≡ end
+    pub going_on : (out' : List ℕ) (bytes' next' end' : ℕ) → 65536 ≡ length out' → PieceOf input list out' bytes' next' end' later → end' ≡ end
         → (next' ≡ end) ⊎ (length out' < bytes' + 87) → Going input list out' bytes' next' end' handed
-    going_on w out' bytes' next' end' room p same full = let reached : sent + length (take bytes out) ≡ handed = omega (arith, handed_all w, piece_length) in record {
+    going_on out' bytes' next' end' room p same full = record {
       shelf = g.shelf;
       buffer = room;
       inside = handed_inside;
@@ -63,7 +55,7 @@ module _ {input : List ℕ} {list : List ℤ} {out : List ℕ} {bytes next end s
             ∙ sym (drop-append_seam (take bytes out) later)
             ∙ ap (drop (length (take bytes out))) g.piece.text
             ∙ drop-drop (length (take bytes out)) sent (output input)
-            ∙ ap (λ k. drop k (output input)) reached;
+            ∙ ap (λ k. drop k (output input)) (sym e);
       };
       answered = λ t h. g.answered t (omega arith);
       goes_on = λ none. ⊎_elim (λ h. omega arith) (λ h. absurd (omega arith)) full;

@@ -1,12 +1,12 @@
 // The stand's program (T1 to T4): one sheet on standard input, its course or its refusal on standard output.
 #![tactic(auto)]
 
-ghost use Rattle.std.specs.Prelude.{◌≡◌, false, cond, ◌+◌, ◌≤◌, length, IfSome};
+ghost use Rattle.std.specs.Prelude.{◌≡◌, ◌+◌, ◌≤◌, length, IfOk, IfSome};
 ghost use Rattle.output.specs.Output.{output};
 ghost use Rattle.output.specs.Pieces.{PartAt};
 
 use sheet::LONGEST_SHEET;
-use std::io::{ErrorKind, Read};
+use std::io::{self, ErrorKind, Read};
 
 // 3N, for the most waypoints, 512.
 const MOST_BENDS: usize = 1536;
@@ -14,56 +14,28 @@ const MOST_BENDS: usize = 1536;
 // How many bytes are put together before they are written.
 const PIECE: usize = 65536;
 
-// How many bytes of the output are handed over, whether a write failed, and whether it failed because nobody reads on.
-#[derive(Clone, Copy)]
-struct Handed {
-    bytes: usize,
-    failed: bool,
-    closed: bool,
-}
-
-// Writes a part of the output, the one that starts after the `sent` bytes before it.
-fn hand_part(rt: &impl Print, input: &[u8], sent: usize, part: &[u8]) -> Handed
+// Writes a part of the output, the one that starts after the `sent` bytes before it, and answers how many bytes are handed over then.
+fn hand_part(rt: &impl Print, input: &[u8], sent: usize, part: &[u8]) -> io::Result<usize>
     requires { PartAt (output input.now) sent part.now }
-    ensures { result.bytes ≡ sent + cond result.failed 0 (length part.now) }
+    ensures { IfOk result (λ n. n ≡ sent + length part.now) }
 {
-    match rt.write_all(part) {
-        Ok(()) => Handed {
-            bytes: sent + part.len(),
-            failed: false,
-            closed: false,
-        },
-        Err(e) => Handed {
-            bytes: sent,
-            failed: true,
-            closed: e.kind() == ErrorKind::BrokenPipe,
-        },
-    }
+    rt.write_all(part)?;
+    Ok(sent + part.len())
 }
 
 // Hands the output over, piece after piece: all of it, unless a write fails.
-fn hand_over(rt: &impl Print, input: &[u8]) -> Handed
-    ensures bytes_in_bounds { result.bytes ≤ length (output input.now) }
-    ensures whole { result.failed ≡ false → result.bytes ≡ length (output input.now) }
+fn hand_over(rt: &impl Print, input: &[u8]) -> io::Result<usize>
+    ensures { IfOk result (λ n. n ≡ length (output input.now)) }
 {
     let mut list = [0i64; MOST_BENDS];
     let mut out = [0u8; PIECE];
     let mut piece = output::begin(input, &mut list, &mut out);
     let mut sent = 0;
     while 0 < piece.bytes {
-        let bytes = piece.bytes;
-        let handed = hand_part(rt, input, sent, &out[..bytes]);
-        if handed.failed {
-            return handed;
-        }
-        sent = handed.bytes;
+        sent = hand_part(rt, input, sent, &out[..piece.bytes])?;
         piece = output::put_lines(input, &list, piece.next, piece.end, &mut out);
     }
-    Handed {
-        bytes: sent,
-        failed: false,
-        closed: false,
-    }
+    Ok(sent)
 }
 
 // Reads the input until it ends or the buffer is full, and answers how many bytes. At the end of its input a read gives 0 again; where one fails, or has
@@ -90,8 +62,10 @@ fn main(rt: HostRuntime) {
         let _ = eprintln!(rt; "stand: cannot read standard input");
         return;
     };
-    let handed = hand_over(&rt, &input[..n]);
-    if handed.failed && !handed.closed {
-        let _ = eprintln!(rt; "stand: cannot write standard output");
+    if let Err(e) = hand_over(&rt, &input[..n]) {
+        // Where nobody reads on there is nothing to say.
+        if e.kind() != ErrorKind::BrokenPipe {
+            let _ = eprintln!(rt; "stand: cannot write standard output");
+        }
     }
 }

@@ -2,7 +2,6 @@
 pub mod Worked
 pub mod Off
 pub mod Tests
-pub mod Ranges
 pub mod Chains
 pub mod Ends
 pub mod Stretches

@@ -46,6 +46,7 @@ pub fn strokes(s: &[u8], list: &[i64], tolerance: i64, ends: &mut [u64]) -> Resu
     if any_bend(&laid) {
         return Err(Refusal::Bend);
     }
+    // (A cast, and no `try_from`: 21 has let no other number through.)
     let drawing = Drawing {
         laid,
         tolerance: tolerance as u64,

@@ -1,7 +1,8 @@
 // The line of each refusal (T4), whole, in a byte string (F6). For the stand's output.
 #![tactic(auto)]
 
-ghost use Rattle.std.specs.Prelude.{◌≡◌, ◌++◌, ◌+◌, ◌≤◌, length, take};
+ghost use Rattle.std.specs.Prelude.{◌≡◌, ◌+◌, ◌≤◌, length};
+ghost use Rattle.lines.specs.Grown.{Grown};
 ghost use Rattle.words.specs.Words.{refusal_line};
 
 use lines::Text;
@@ -41,9 +42,7 @@ fn line_of(refusal: Refusal) -> &'static [u8]
 // The refusal's line at a text's end.
 pub fn put_refusal(out: &mut Text<'_>, refusal: Refusal)
     requires { out.old.len + 19 ≤ length out.old.bytes.now }
-    ensures text { take out.new.len out.new.bytes.now ≡ take out.old.len out.old.bytes.now ++ refusal_line refusal }
-    ensures len { out.new.len ≡ out.old.len + length (refusal_line refusal) }
-    ensures room { length out.new.bytes.now ≡ length out.old.bytes.now }
+    ensures { Grown out.old out.new (refusal_line refusal) }
 {
     out.push(line_of(refusal));
 }

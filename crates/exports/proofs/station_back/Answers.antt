@@ -1,19 +1,19 @@
--- `station_back`: a slice with three numbers lends a runner, and a shorter one none; telling writes the answer.
-use Rattle.std.proofs.Common.{◌∙◌}
+-- `station_back`: what the lent runner's way back tells is told of the slice.
+use Rattle.std.proofs.Common.{◌≡◌, ◌∙◌, ap, rules}
+use Rattle.sheet.specs.Answers.{Told}
+use Rattle.sheet.specs.Reading.{most_points}
+use Rattle.runner.specs.Ticks.{told_runner}
 use Rattle.runner.specs.Backs.{backed}
-use Rattle.boundary.specs.Written.{unsigned}
-use Rattle.boundary.proofs.Tell.{tells_on}
-use Rattle.boundary.proofs.Lent.{runner_lent, none_lent}
+use Rattle.boundary.specs.Written.{moved_slice, written_unsigned}
+use Rattle.boundary.proofs.Lent.{moved_lent}
 use Rattle.exports.proofs.station_back.Goals as goal
-
-pub returns-then-lent-lt3 : goal.returns-then-lent-lt3
-returns-then-lent-lt3 c =
-    let a = c.args in let t = c.tell_runner.ensures in
-    let (answer, lent) = tells_on unsigned a.lent.now (t.answer, t.out) (c.no_runner.ensures ∙ none_lent _ backed a.sheet.now a.lent.now c.if-lent-lt3.true) in
-    record { answer = answer; lent = lent }
 
 pub returns : goal.returns
 returns c =
-    let a = c.args in let t = c.tell_runner-2.ensures in
-    let (answer, lent) = tells_on unsigned a.lent.now (t.answer, t.out) (c.backed.ensures ∙ runner_lent _ backed a.sheet.now a.lent.now c.if-lent-lt3.false) in
-    record { answer = answer; lent = lent }
+    let a = c.args in
+    let moved : told_runner c.and_then.result ≡ moved_slice most_points backed a.sheet.now a.lent.now =
+    moved_lent most_points backed a.sheet.now a.lent.now c.lent_runner-answer.result c.and_then.result c.lent_runner-answer.ensures c.and_then.ensures (λ at p. search rules) in
+    record {
+      answer = c.tell_runner.ensures.answer ∙ ap (λ (t : Told). t.number) moved;
+      lent = c.tell_runner.ensures.out ∙ ap (λ (t : Told). written_unsigned t a.lent.now) moved;
+    }

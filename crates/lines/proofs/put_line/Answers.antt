@@ -1,17 +1,17 @@
 -- The tick, the three numbers and the line feed, each put after the one before.
-use Rattle.std.proofs.Common.{refl, take, rules}
+use Rattle.std.proofs.Common.{refl, rules}
 use Rattle.lines.specs.Lines.{line}
-use Rattle.lines.proofs.Decimal.{followed, column}
+use Rattle.lines.proofs.Decimal.{column}
+use Rattle.lines.proofs.Grow.{grown_twice}
 use Rattle.lines.proofs.put_line.Goals as goal
 
-pub returns-clause-text : goal.returns-clause-text
+pub returns-clause-grown : goal.returns-clause-grown
 unfolding line
-returns-clause-text c =
-    let front = take c.args.out.now.len c.args.out.now.bytes.now in
-    followed front _
-    (followed front _
-    (followed front _
-    (followed front _ c.put_decimal.ensures.text c.put_column.ensures.text (column _ (search rules)))
-    c.put_column-2.ensures.text (column _ (search rules)))
-    c.put_column-3.ensures.text (column _ (search rules)))
-    c.push.ensures.text refl
+returns-clause-grown c =
+    grown_twice
+    (grown_twice
+    (grown_twice
+    (grown_twice c.put_decimal.ensures.grown c.put_column.ensures.grown (column _ (search rules)))
+    c.put_column-2.ensures.grown (column _ (search rules)))
+    c.put_column-3.ensures.grown (column _ (search rules)))
+    c.push.ensures refl

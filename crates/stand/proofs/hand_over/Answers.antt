@@ -3,14 +3,14 @@ use Rattle.std.proofs.Common.{arith, rules}
 use Rattle.stand.proofs.Turns.{part, going_on, all_handed}
 use Rattle.stand.proofs.hand_over.Goals as goal
 
-pub hand_part-handed-requires : goal.hand_part-handed-requires
-hand_part-handed-requires g c = part c.loop-piece.invariant
+pub hand_part-requires : goal.hand_part-requires
+hand_part-requires g c = part c.loop-piece.invariant
 
 pub loop-piece-preserved : goal.loop-piece-preserved
 loop-piece-preserved g c =
-    going_on c.loop-piece.invariant c.hand_part-handed.result.failed c.hand_part-handed.result.bytes c.hand_part-handed.ensures c.if-handed.false
+    going_on c.loop-piece.invariant c.in_ok-sent.sent c.in_ok-sent.ensures
     c.put_lines-piece.new.out c.put_lines-piece.result.bytes c.put_lines-piece.result.next c.put_lines-piece.result.end
     (search rules) c.put_lines-piece.ensures.piece_of c.put_lines-piece.ensures.ends c.put_lines-piece.ensures.full
 
-pub returns-clause-whole : goal.returns-clause-whole
-returns-clause-whole g c = λ _. all_handed c.loop-piece.invariant (omega arith)
+pub returns : goal.returns
+returns g c = all_handed c.loop-piece.invariant (omega arith)

@@ -4,7 +4,7 @@ use Rattle.std.proofs.lemmas.Iterator.{YieldsList-from_range}
 use Rattle.std.proofs.lemmas.Iterator.Search.{any_from_yields_List}
 use Rattle.sheet.specs.Bytes.{any_below}
 use Rattle.place.specs.Places.{bend_outside}
-use Rattle.stretch.proofs.Ranges.{any_counted}
+use Rattle.sheet.proofs.Ranges.{any_counted}
 use Rattle.strokes.specs.Strokes.{any_bend}
 use Rattle.strokes.proofs.any_bend.Goals as goal
 

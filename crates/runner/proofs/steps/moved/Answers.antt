@@ -1,4 +1,4 @@
--- `moved`: what the check finds alone, written where it is tried besides.
+-- `moved`: what the check finds alone, written since it is tried besides.
 use Rattle.std.proofs.Common.{◌≡◌, ◌∙◌, refl, sym, arith}
 use Rattle.std.proofs.lemmas.Grind.{common_steps}
 use Rattle.integers.proofs.Tried.{Tried, tried}

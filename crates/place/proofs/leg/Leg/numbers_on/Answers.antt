@@ -1,49 +1,32 @@
 -- `numbers_on`: the four numbers are those of the definitions, and within limits.
-use Rattle.std.proofs.Common.{◌≡◌, ◌≤◌, ◌^◌, ◌≤◌, ℕ, ℤ, nat_abs, ltb, sym}
-use mathlib.Core.Path.{subst₂}
-use lib.Dec.{T}
+use Rattle.std.proofs.Common.{◌≡◌, ◌<◌, ◌∙◌, ℕ, ℤ, List, false, ap, arith}
 use Rattle.integers.proofs.Made.{read, given, small}
-use Rattle.sheet.specs.Fields.{leg, waypoint}
-use Rattle.place.specs.Places.{end_of, bend_of}
-use Rattle.place.specs.declared.leg.Leg.{Leg}
+use Rattle.sheet.specs.Fields.{points, legs, leg, waypoint}
+use Rattle.sheet.specs.Reading.{Accepted}
 use Rattle.place.specs.Asked.{OnLeg}
-use Rattle.place.proofs.Fitting.{point_fits, waypoint_room, numbers_fit}
+use Rattle.place.specs.Places.{end_of, bend_of, bend_outside}
+use Rattle.place.proofs.Fitting.{numbers_fit}
 use Rattle.place.proofs.leg.Leg.numbers_on.Goals as goal
 
--- by the leg's own end and ticks
-at_end : (l : Leg) (axis : ℕ) → let s = l.laid.sheet.bytes.now in let list = l.laid.list.now in
-    OnLeg (leg s l.start) 0 (waypoint s axis l.start) (waypoint s axis (end_of s l.start)) (bend_of s list axis l.start) (bend_of s list axis (end_of s l.start))
-    → OnLeg l.ticks 0 (waypoint s axis l.start) (waypoint s axis l.end) (bend_of s list axis l.start) (bend_of s list axis l.end)
-at_end l axis f =
-    let s = l.laid.sheet.bytes.now in let list = l.laid.list.now in
-    subst₂ (λ h e. OnLeg h 0 (waypoint s axis l.start) (waypoint s axis e) (bend_of s list axis l.start) (bend_of s list axis e)) (sym l.is_ticks) (sym l.is_end) f
-
--- a number that the code made, and its size
-size : {y x : ℤ} {B : ℕ} → y ≡ x → nat_abs x ≤ B → T (ltb B (2 ^ 63)) → nat_abs (read y) ≤ B
-size e h t = small (given e h t)
-
-pub waypoint_on-v-requires : goal.waypoint_on-v-requires
-waypoint_on-v-requires c =
-    let l = c.args.self.now in let o = l.laid.sheet in
-    (c.legs-legs.ensures, c.requires, waypoint_room o.bytes.now o.accepted _ l.start c.legs-legs.ensures (point_fits o.bytes.now o.accepted l.start l.fits))
-
-pub waypoint_on-w-requires : goal.waypoint_on-w-requires
-waypoint_on-w-requires c =
-    let l = c.args.self.now in let o = l.laid.sheet in
-    (c.legs-legs.ensures, c.requires, waypoint_room o.bytes.now o.accepted _ l.end c.legs-legs.ensures l.end_fits)
+-- the numbers as the code makes them, of a leg of h ticks that ends at waypoint e
+numbers_made : (s : List ℕ) → Accepted s → (list : List ℤ) (i e h axis : ℕ) {v w z y : ℤ} → i < legs s → bend_outside s list i ≡ false → axis < 3
+    → e ≡ end_of s i → e < points s → h ≡ leg s i → v ≡ waypoint s axis i → w ≡ waypoint s axis e → z ≡ bend_of s list axis i → y ≡ bend_of s list axis e
+    → OnLeg h 0 (read v) (read w) (read z) (read y)
+numbers_made s a list i e h axis fits inside on is_end end_fits is_ticks v w z y =
+    let f = numbers_fit s a list i fits inside axis on (rw (← is_end) end_fits) in
+    let w' = w ∙ ap (waypoint s axis) is_end in let y' = y ∙ ap (bend_of s list axis) is_end in record {
+      leg_low = rw is_ticks f.leg_low;
+      leg_high = rw is_ticks f.leg_high;
+      offset = omega arith;
+      start = small (given v f.start tt);
+      end = small (given w' f.end tt);
+      start_bend = small (given z f.start_bend tt);
+      end_bend = small (given y' f.end_bend tt);
+    }
 
 pub invariant_of-result : goal.invariant_of-result
 invariant_of-result c =
-    let l = c.args.self.now in let s = l.laid.sheet.bytes.now in let list = l.laid.list.now in let axis = c.args.axis in
-    let f = at_end l axis (numbers_fit s l.laid.sheet.accepted list l.start l.fits l.inside axis c.requires (rw (← l.is_end) l.end_fits)) in
-    record {
-      within = record {
-        leg_low = f.leg_low;
-        leg_high = f.leg_high;
-        offset = f.offset;
-        start = size c.waypoint_on-v.ensures f.start tt;
-        end = size c.waypoint_on-w.ensures f.end tt;
-        start_bend = size c.bend_of-z.ensures f.start_bend tt;
-        end_bend = size c.bend_of-y.ensures f.end_bend tt;
-      };
+    let l = c.args.self.now in let o = l.laid.sheet in let e = c.ends_on-v.ensures in record {
+      within = numbers_made o.bytes.now o.accepted l.laid.list.now l.start l.end l.ticks c.args.axis l.fits l.inside c.requires l.is_end l.end_fits l.is_ticks
+          e.ends.0 e.ends.1 e.bends.0 e.bends.1;
     }

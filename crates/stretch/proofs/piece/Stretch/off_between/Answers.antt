@@ -4,7 +4,7 @@ use Rattle.std.proofs.lemmas.Iterator.{YieldsList-from_range}
 use Rattle.std.proofs.lemmas.Iterator.Search.{any_from_yields_List}
 use Rattle.stretch.specs.Asked.{tabled}
 use Rattle.stretch.specs.Stretches.{off_at}
-use Rattle.stretch.proofs.Ranges.{any_ranged}
+use Rattle.sheet.proofs.Ranges.{any_ranged}
 use Rattle.stretch.proofs.piece.Stretch.off_between.Goals as goal
 
 pub returns : goal.returns

@@ -4,7 +4,7 @@ use Rattle.std.proofs.lemmas.Iterator.{YieldsList-from_range}
 use Rattle.std.proofs.lemmas.Iterator.Search.{any_from_yields_List}
 use Rattle.stretch.specs.Asked.{tabled}
 use Rattle.stretch.specs.Stretches.{strays_on, strays}
-use Rattle.stretch.proofs.Ranges.{any_counted}
+use Rattle.sheet.proofs.Ranges.{any_counted}
 use Rattle.stretch.proofs.piece.Stretch.strays.Goals as goal
 
 pub returns : goal.returns

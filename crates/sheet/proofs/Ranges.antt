@@ -1,4 +1,4 @@
--- A question asked of the numbers of a range, one after the other, is the definitions' question. For crate strokes too.
+-- A question asked of the numbers of a range, one after the other, is the definitions' question. For the proofs of place, stretch and strokes.
 use mathlib.Core.Path.{◌≡◌, refl, sym, ap, ◌∙◌}
 use mathlib.Core.Bool.{Bool, ◌||◌}
 use Prim.Native.Nat.{ℕ, zero, suc, ◌+◌}
