@@ -3,7 +3,7 @@ use Rattle.std.proofs.Common.{◌∙◌, ◌||◌, Bool, false, rules, tests}
 use Rattle.std.proofs.lemmas.Iterator.{YieldsList-from_slice}
 use Rattle.std.proofs.lemmas.Iterator.Consumers.{fold_from_yields_List}
 use Rattle.sheet.specs.Reading.{leg_outside}
-use Rattle.lists.proofs.Asked.{folded_is}
+use Rattle.lists.proofs.Questions.{folded_is}
 use Rattle.lists.proofs.tested.legs_outside.Goals as goal
 
 pub returns : goal.returns

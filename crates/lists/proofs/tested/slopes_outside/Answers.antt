@@ -3,7 +3,7 @@ use Rattle.std.proofs.Common.{◌∙◌, pos, rules, tests}
 use Rattle.std.proofs.lemmas.Iterator.{YieldsList-from_slice}
 use Rattle.std.proofs.lemmas.Iterator.Search.{any_from_yields_List}
 use Rattle.sheet.specs.Reading.{slope_outside}
-use Rattle.lists.proofs.Asked.{any_is}
+use Rattle.lists.proofs.Questions.{any_is}
 use Rattle.lists.proofs.tested.slopes_outside.Goals as goal
 
 pub returns : goal.returns

@@ -4,7 +4,7 @@ use Rattle.std.proofs.lemmas.Iterator.{YieldsList-from_slice}
 use Rattle.std.proofs.lemmas.Iterator.Consumers.{YieldsList-from_enumerate}
 use Rattle.std.proofs.lemmas.Iterator.Search.{any_from_yields_List}
 use Rattle.sheet.specs.Reading.{reach_outside}
-use Rattle.lists.proofs.Asked.{enumerated_is}
+use Rattle.lists.proofs.Questions.{enumerated_is}
 use Rattle.lists.proofs.tested.waypoint_outside.Goals as goal
 
 pub returns : goal.returns

@@ -3,7 +3,7 @@ use Rattle.std.proofs.Common.{◌∙◌, ℤ, pos, List, length, get_or, rules, 
 use Rattle.std.proofs.lemmas.Iterator.Search.{any_from_yields_List}
 use Rattle.sheet.specs.Bytes.{any_below}
 use Rattle.sheet.specs.Reading.{reach_outside}
-use Rattle.lists.proofs.Asked.{YieldsList-from_threes, threes_is}
+use Rattle.lists.proofs.Questions.{YieldsList-from_threes, threes_is}
 use Rattle.lists.proofs.tested.waypoints_outside.Goals as goal
 
 pub returns : goal.returns
