@@ -8,7 +8,7 @@ ghost use Rattle.fleet.specs.Numbers.{records, with_records, numbers_after};
 use runner::Runner;
 use seat::{RoundAnswer, serve, turned_away};
 
-// The record of a seat, if the turn is one's.
+// The record of a seat, if the turn is one's. (Kept indices, here and below: C hands plain numbers over, and a seat's three have names.)
 #[tactic(auto, using(crate::proofs::Triples::count_is, crate::proofs::Triples::seat_lent))]
 fn record_at(lent: &[u64], turn: u64) -> Option<Runner>
     ensures { MatchOption result (length lent.now / 3 ≤ turn) (λ r. (turn < length lent.now / 3) × (r ≡ seat_of (records lent.now) turn)) }
