@@ -31,7 +31,6 @@ fn hand_over(rt: &impl Print, input: &[u8]) -> io::Result<usize>
     let mut out = [0u8; PIECE];
     let mut piece = output::begin(input, &mut list, &mut out);
     let mut sent = 0;
-    // (Kept a loop: the pieces end where one has no bytes, and no index is counted.)
     while 0 < piece.bytes {
         sent = hand_part(rt, input, sent, &out[..piece.bytes])?;
         piece = output::put_lines(input, &list, piece.next, piece.end, &mut out);
@@ -45,7 +44,6 @@ fn read_input(from: &mut impl Read, buffer: &mut [u8]) -> Option<usize>
     ensures { IfSome result (λ n. n ≤ length buffer.new) }
 {
     let mut done = 0;
-    // (Kept a loop: std's `read_to_end` fills a Vec, and the stand has no heap; its `read_exact` does not tell how much it read.)
     while done < buffer.len() {
         let n = from.read(&mut buffer[done..]).ok()?;
         if n == 0 {
