@@ -144,7 +144,7 @@ fn tell_count(answer: Result<usize, Refusal>, out: &mut [u64]) -> u64
     tell(answer.map(count_number), out)
 }
 
-// out = the length of the sheet, which stands at the front of `sheet`; it is written there whether or not `out` has room
+// out = the length of the sheet, which stands at the front of `sheet`; it is written there whether or not `out` has room. The kind is a number, as C lends it
 #[unsafe(no_mangle)]
 pub extern "C" fn station_write(
     kind: u64,

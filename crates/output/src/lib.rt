@@ -9,7 +9,7 @@ ghost use Rattle.output.specs.Pieces.{AllAnswered, PieceOf};
 use lines::{LINE_ROOM, Text};
 use sheet::{LONGEST_SHEET, MOST_POINTS, Refusal};
 
-// The bytes of a piece, and the ticks whose lines come after it: `next` to before `end`.
+// How many bytes a piece has, at the front of the buffer that the stand keeps for all of them, and the ticks whose lines come after it: `next` to before `end`.
 #[derive(Clone, Copy)]
 pub struct Piece {
     pub bytes: usize,

@@ -20,7 +20,7 @@ pub fn is_open(kind: EndKind) -> bool
     }
 }
 
-// N10: an open course has no tick over P.
+// N10: an open course has no tick over P. (Of a kind and a P: it asks nothing of a sheet.)
 pub fn is_past(kind: EndKind, ticks: u64, tick: u64) -> bool
     ensures { result ≡ (is_open kind && ltb ticks tick) }
 {

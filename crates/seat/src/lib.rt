@@ -21,7 +21,7 @@ pub struct RoundAnswer {
     pub next: Option<u64>,
 }
 
-// The seat's runner, moved or as it was, and the answer.
+// The seat's runner, moved or as it was, and the answer: what `serve` gives back of a record by value (F9).
 #[derive(Clone, Copy)]
 pub struct SeatOutcome {
     pub at: Runner,

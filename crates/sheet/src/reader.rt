@@ -171,7 +171,7 @@ pub fn read_by(limit: usize, s: &[u8]) -> Result<Course, Refusal>
     read_with_sums(limit, s, &mut sums)
 }
 
-// The station's reading.
+// The station's reading. (One line over `read_by`, since callers and papers know it by this name; so are the other calls of the station and the board.)
 pub fn read(s: &[u8]) -> Result<Course, Refusal>
     ensures { told result ≡ told (read_sheet s.now) }
 {

@@ -23,7 +23,7 @@ fn hand_part(rt: &impl Print, input: &[u8], sent: usize, part: &[u8]) -> io::Res
     Ok(sent + part.len())
 }
 
-// Hands the output over, piece after piece: all of it, unless a write fails.
+// Hands the output over, piece after piece: all of it, unless a write fails. (A `while`: no count of pieces is known before.)
 fn hand_over(rt: &impl Print, input: &[u8]) -> io::Result<usize>
     ensures { IfOk result (λ n. n ≡ length (output input.now)) }
 {
@@ -39,7 +39,7 @@ fn hand_over(rt: &impl Print, input: &[u8]) -> io::Result<usize>
 }
 
 // Reads the input until it ends or the buffer is full, and answers how many bytes. At the end of its input a read gives 0 again; where one fails, or has
-// more, the input was not read whole and there is no answer.
+// more, the input was not read whole and there is no answer. (A `while`: how far a read comes it says itself, and std's `read_to_end` would want a heap.)
 fn read_input(from: &mut impl Read, buffer: &mut [u8]) -> Option<usize>
     ensures { IfSome result (λ n. n ≤ length buffer.new) }
 {

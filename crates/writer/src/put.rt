@@ -34,7 +34,7 @@ fn put_all<T: Copy, F: Fn(T) -> u64, const N: usize>(
     }
 }
 
-// S2 to S5: the count of bytes, version 1, the kind, N.
+// S2 to S5: the count of bytes, version 1, the kind, N. (The kind is a number still: an `EndKind` would ask more of a caller.)
 pub fn put_head(out: &mut [u8], size: u64, kind: u64, n: u64)
     requires { (8 ≤ length out.old) × (kind ≤ 2) }
     ensures { out.new ≡ over (head_bytes size kind n) 0 out.old }
