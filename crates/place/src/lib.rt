@@ -34,6 +34,7 @@ pub fn place_at(laid: &Laid<'_>, at: Runner) -> Result<Place, Refusal>
         return Err(Refusal::Bend);
     }
     let leg = laid.leg(start);
+    // (Kept three calls: by an array's `map` a place would not name its axes.)
     let north = leg.place_on(at.offset, 0);
     let east = leg.place_on(at.offset, 1);
     let up = leg.place_on(at.offset, 2);
