@@ -12,6 +12,7 @@ pub use opened::OpenSheet;
 use sheet::{Refusal, SUMS};
 
 // A2: reads the sheet, by a reader of up to `limit` waypoints.
+#[inline(always)]
 pub fn open(limit: usize, s: &[u8]) -> Result<OpenSheet<'_>, Refusal>
     ensures { Answered (read_by limit s.now) s.now result }
 {
@@ -20,6 +21,7 @@ pub fn open(limit: usize, s: &[u8]) -> Result<OpenSheet<'_>, Refusal>
 }
 
 // P7: the same, for the calls that search a tick's leg: the sums of the sheet's legs stay behind.
+#[inline(always)]
 pub fn open_with_sums<'a>(
     limit: usize,
     s: &'a [u8],

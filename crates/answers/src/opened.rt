@@ -5,21 +5,22 @@ ghost use Rattle.sheet.specs.Reading.{Accepted};
 
 use ends::EndKind;
 
-// Its bytes, and its kind, N and P.
+// Its bytes, and its N, kind and P. (In this order, since the compiler moves N and P at once where they are neighbours, and then waits for both.)
 #[derive(Clone, Copy)]
 pub struct OpenSheet<'a> {
     pub bytes: &'a [u8],
-    pub kind: EndKind,
     pub points: usize,
+    pub kind: EndKind,
     pub ticks: u64,
     pub ghost accepted: { Accepted bytes.now },
-    pub ghost is_kind: { kind ≡ kind_in bytes.now },
     pub ghost is_points: { points ≡ points_in bytes.now },
+    pub ghost is_kind: { kind ≡ kind_in bytes.now },
     pub ghost is_ticks: { ticks ≡ ticks_in bytes.now },
 }
 
 impl<'a> OpenSheet<'a> {
     // S6: L.
+    #[inline(always)]
     pub fn legs(&self) -> usize
         ensures { result ≡ legs_in self.now.bytes.now }
     {

@@ -12,15 +12,6 @@ use Rattle.runner.specs.declared.Runner.{Runner}
 unfoldable pub put : {A : Type 0} → List A → List A → List A
 put values out = cond (leb (length values) (length out)) (values ++ drop (length values) out) out
 
--- the number that is said of an answer by its values, and what it leaves of a slice
-abbrev pub said : {A : Type 0} → Result (List A) Refusal → ℕ
-said (Ok values) = 0
-said (Err r) = number_of r
-
-abbrev pub left_in : {A : Type 0} → Result (List A) Refusal → List A → List A
-left_in (Ok values) out = put values out
-left_in (Err r) out = out
-
 -- values as a slice of signed numbers holds them, and one of unsigned ones
 abbrev pub signed : List ℤ → List ℤ
 signed values = values

@@ -10,11 +10,11 @@ ghost use Rattle.layout.specs.Layout.{lay_out_by, laid_out_by};
 ghost use Rattle.runner.specs.Ticks.{runner, at_lap, told_runner, runner_at_tick_by};
 ghost use Rattle.runner.specs.Steps.{stepped_by};
 ghost use Rattle.place.specs.Places.{told_placed, place_at_tick_by, place_of_runner_by};
-ghost use Rattle.boundary.specs.Written.{put, said, left_in, written, written_unsigned, no_runner, moved_slice, IsLent};
+ghost use Rattle.boundary.specs.Written.{put, written, written_unsigned, no_runner, moved_slice, IsLent};
 
 use place::Place;
 use runner::Runner;
-use sheet::{Course, Refusal};
+use sheet::Refusal;
 
 // Results at the front of a slice that has room for them.
 #[tactic(auto, unfolding(crate::specs::Written::put))]
@@ -26,33 +26,21 @@ pub fn put<T: Copy, const N: usize>(out: &mut [T], values: [T; N])
     }
 }
 
-// What every call does with its answer: the values into the slice, or the refusal's number.
-pub fn tell<T: Copy, const N: usize>(answer: Result<[T; N], Refusal>, out: &mut [T]) -> u64
-    ensures answer { result ≡ said answer }
-    ensures out { out.new ≡ left_in answer out.old }
-{
-    match answer {
-        Ok(values) => {
-            put(out, values);
-            0
-        }
-        Err(refusal) => u64::from(refusal),
-    }
-}
-
-// A course's three numbers.
-fn course_numbers(course: Course) -> [u64; 3]
-    ensures { result ≡ kind_number course.kind ∷ course.points ∷ course.ticks ∷ [] }
-{
-    [u64::from(course.kind), course.points as u64, course.ticks]
-}
-
 // out = kind, N, P
 pub fn read(limit: usize, sheet: &[u8], out: &mut [u64]) -> u64
     ensures answer { result ≡ (told (read_by limit sheet.now)).number }
     ensures out { out.new ≡ written_unsigned (told (read_by limit sheet.now)) out.old }
 {
-    tell(sheet::read_by(limit, sheet).map(course_numbers), out)
+    match sheet::read_by(limit, sheet) {
+        Ok(course) => {
+            put(
+                out,
+                [u64::from(course.kind), course.points as u64, course.ticks],
+            );
+            0
+        }
+        Err(refusal) => u64::from(refusal),
+    }
 }
 
 pub fn lay_out(limit: usize, sheet: &[u8], list: &mut [i64]) -> u64
@@ -65,19 +53,18 @@ pub fn lay_out(limit: usize, sheet: &[u8], list: &mut [i64]) -> u64
     }
 }
 
-// A place's three numbers.
-fn place_numbers(place: Place) -> [i64; 3]
-    ensures { result ≡ place.at }
-{
-    place.at
-}
-
 // The place into the slice, or the refusal's number.
 pub fn tell_place(answer: Result<Place, Refusal>, out: &mut [i64]) -> u64
     ensures answer { result ≡ (told_placed answer).number }
     ensures out { out.new ≡ written (told_placed answer) out.old }
 {
-    tell(answer.map(place_numbers), out)
+    match answer {
+        Ok(place) => {
+            put(out, place.at);
+            0
+        }
+        Err(refusal) => u64::from(refusal),
+    }
 }
 
 // out = north, east, up
@@ -105,19 +92,18 @@ pub fn place_of_runner(
     tell_place(place::place_of_runner_by(limit, sheet, list, at), out)
 }
 
-// A runner's three numbers.
-fn runner_numbers(at: Runner) -> [u64; 3]
-    ensures { result ≡ at.leg ∷ at.offset ∷ at.laps ∷ [] }
-{
-    [at.leg, at.offset, at.laps]
-}
-
 // The runner into the slice, or the refusal's number.
 pub fn tell_runner(answer: Result<Runner, Refusal>, out: &mut [u64]) -> u64
     ensures answer { result ≡ (told_runner answer).number }
     ensures out { out.new ≡ written_unsigned (told_runner answer) out.old }
 {
-    tell(answer.map(runner_numbers), out)
+    match answer {
+        Ok(at) => {
+            put(out, [at.leg, at.offset, at.laps]);
+            0
+        }
+        Err(refusal) => u64::from(refusal),
+    }
 }
 
 // out = leg, offset, laps

@@ -21,7 +21,7 @@ ghost use Rattle.fleet.specs.Numbers.{records, numbers_after};
 ghost use Rattle.strokes.specs.Strokes.{strokes_answer, drawn_into};
 ghost use Rattle.boundary.specs.Written.{put, written, written_unsigned, moved_slice};
 
-use boundary::{lent_runner, put, tell, tell_place, tell_runner};
+use boundary::{lent_runner, put, tell_place, tell_runner};
 use sheet::{MOST_POINTS, Refusal};
 
 // out = kind, N, P
@@ -129,19 +129,18 @@ pub extern "C" fn station_round(
     tell_place(answer.placed, place)
 }
 
-// A count alone.
-fn count_number(count: usize) -> [u64; 1]
-    ensures { result ≡ count ∷ [] }
-{
-    [count as u64]
-}
-
 // How many bytes or stroke ends, into the slice, or the refusal's number.
 fn tell_count(answer: Result<usize, Refusal>, out: &mut [u64]) -> u64
     ensures answer { result ≡ (told_count answer).number }
     ensures out { out.new ≡ written_unsigned (told_count answer) out.old }
 {
-    tell(answer.map(count_number), out)
+    match answer {
+        Ok(count) => {
+            put(out, [count as u64]);
+            0
+        }
+        Err(refusal) => u64::from(refusal),
+    }
 }
 
 // out = the length of the sheet, which stands at the front of `sheet`; it is written there whether or not `out` has room. The kind is a number, as C lends it

@@ -20,6 +20,7 @@ pub struct Laid<'a> {
 impl<'a> Laid<'a> {
     // N9, asked of a list.
     #[tactic(auto, using(crate::proofs::Fitting::few_points))]
+    #[inline(always)]
     pub fn on(sheet: OpenSheet<'a>, list: &'a [i64]) -> Result<Laid<'a>, Refusal>
         ensures ok { IfOk result (λ l. (l.sheet.bytes.now ≡ sheet.entry.bytes.now) × (l.list.now ≡ list.now)) }
         ensures err { IfErr result (λ r. (r ≡ Shelf) × (short sheet.entry.bytes.now (length list.now) ≡ true)) }

@@ -34,6 +34,7 @@ pub struct LegEnds {
 impl<'a> Laid<'a> {
     // The numbers at the ends of leg `i`, also where 12 applies to it; `end` is the waypoint at its end, the same on all axes.
     #[tactic(auto, using(crate::proofs::Fitting::few_legs, crate::proofs::Fitting::room))]
+    #[inline(always)]
     pub fn ends_on(&self, i: usize, end: usize, axis: usize) -> LegEnds
         requires leg { (i < legs_of self.now.sheet.bytes.now) × (axis < 3) }
         requires end { (end ≡ end_of self.now.sheet.bytes.now i) × (end < points_of self.now.sheet.bytes.now) }
@@ -52,6 +53,7 @@ impl<'a> Laid<'a> {
 
     // Leg `i`, of which 12 was asked.
     #[tactic(auto, using(crate::proofs::Fitting::few_legs, crate::proofs::Fitting::room, crate::proofs::Fitting::end_is))]
+    #[inline(always)]
     pub fn leg(&self, i: usize) -> Leg<'a>
         requires fits { i < legs_of self.now.sheet.bytes.now }
         requires inside { bend_outside self.now.sheet.bytes.now self.now.list.now i ≡ false }
@@ -68,6 +70,7 @@ impl<'a> Laid<'a> {
 
 impl Leg<'_> {
     // The leg's numbers on an axis: 0 is north, 1 east, 2 up.
+    #[inline(always)]
     pub fn numbers_on(&self, axis: usize) -> LegNumbers
         requires { axis < 3 }
         ensures h { result.h ≡ self.now.ticks }
@@ -81,6 +84,7 @@ impl Leg<'_> {
 
     // The place's number on an axis (P1), `offset` ticks along the leg.
     #[tactic(auto, using(integers::proofs::Made::passed), unfolding(crate::specs::Places::place_on))]
+    #[inline(always)]
     pub fn place_on(&self, offset: u64, axis: usize) -> i64
         requires { (offset ≤ self.now.ticks) × (axis < 3) }
         ensures { result ≡ place_on self.now.laid.sheet.bytes.now self.now.laid.list.now (runner self.now.start offset) axis }

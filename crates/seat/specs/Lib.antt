@@ -1,3 +1,2 @@
 -- One seat's turn; what the functions inside ask for.
 pub mod Serving
-pub mod Asked

@@ -4,7 +4,6 @@
 ghost use Rattle.std.specs.Prelude.{◌≡◌, cond, ◌<◌, eqb};
 ghost use Rattle.runner.specs.Steps.{moved};
 ghost use Rattle.place.specs.Places.{told_placed};
-ghost use Rattle.seat.specs.Asked.{Admits};
 ghost use Rattle.seat.specs.Serving.{flown, served, next_turn, told_next, turn_after, seat_after, nobody};
 
 use place::{Laid, Place};
@@ -13,6 +12,13 @@ use sheet::{MOST_POINTS, Refusal};
 
 // N19.
 pub const MOST_SEATS: usize = 32;
+
+// The runner of a turn that is no seat's.
+pub const NOBODY: Runner = Runner {
+    leg: 0,
+    offset: 0,
+    laps: 0,
+};
 
 // The seat's place or the refusal, and beside it the seat that has the next turn (Q3): none beside a refusal that is not a seat's own.
 #[derive(Clone, Copy)]
@@ -39,23 +45,17 @@ fn next_turn(seats: usize, turn: u64) -> u64
     turn + 1
 }
 
-// A14, before any seat: tests 1 to 9, 19 and 20.
-#[tactic(auto, using(runner::proofs::Entry::opening))]
-fn admitted<'a>(s: &'a [u8], list: &'a [i64], seats: usize, turn: u64) -> Result<Laid<'a>, Refusal>
-    ensures { Admits s.now list.now seats turn result }
+// A refusal that is not a seat's own: no turn beside it, and the runner as it came (A9).
+fn kept(refusal: Refusal, at: Runner) -> SeatOutcome
+    ensures { (result.answer.placed ≡ Err refusal) × (result.answer.next ≡ None) × (result.at ≡ at) }
 {
-    let reading = answers::open(MOST_POINTS, s);
-    let Ok(sheet) = reading else {
-        return Err(reading.unwrap_err());
-    };
-    let laid = Laid::on(sheet, list)?;
-    if (seats == 0) | (MOST_SEATS < seats) {
-        return Err(Refusal::Seats);
+    SeatOutcome {
+        at,
+        answer: RoundAnswer {
+            placed: Err(refusal),
+            next: None,
+        },
     }
-    if seats as u64 <= turn {
-        return Err(Refusal::Turn);
-    }
-    Ok(laid)
 }
 
 // The seat on a course that was admitted: 11, 13, then the step and the place there, or 12. A refused one stays where it was (A9).
@@ -77,20 +77,26 @@ fn fly(laid: &Laid<'_>, at: &mut Runner) -> Result<Place, Refusal>
 }
 
 // A14: the turn `turn` of `seats`, taken by the runner `at`. Tests 1 to 9, 19, 20, then 11, 13, 12.
-#[tactic(auto, using(answers::proofs::Guards::refused_keeps, answers::proofs::Guards::done_changes), unfolding(crate::specs::Serving::served, crate::specs::Serving::turn_after, crate::specs::Serving::seat_after))]
+#[tactic(auto, using(runner::proofs::Entry::opening, answers::proofs::Guards::refused_keeps, answers::proofs::Guards::done_changes), unfolding(crate::specs::Serving::served, crate::specs::Serving::turn_after, crate::specs::Serving::seat_after))]
 pub fn serve(s: &[u8], list: &[i64], seats: usize, turn: u64, at: Runner) -> SeatOutcome
     ensures told { told_placed result.answer.placed ≡ served s.now list.now seats turn at }
     ensures next { told_next result.answer.next ≡ turn_after s.now list.now seats turn }
     ensures at { result.at ≡ seat_after s.now list.now seats turn at }
 {
-    let admission = admitted(s, list, seats, turn);
-    let Ok(laid) = admission else {
-        let placed = Err(admission.unwrap_err());
-        return SeatOutcome {
-            at,
-            answer: RoundAnswer { placed, next: None },
-        };
+    let reading = answers::open(MOST_POINTS, s);
+    let Ok(sheet) = reading else {
+        return kept(reading.unwrap_err(), at);
     };
+    let with_list = Laid::on(sheet, list);
+    let Ok(laid) = with_list else {
+        return kept(with_list.unwrap_err(), at);
+    };
+    if (seats == 0) | (MOST_SEATS < seats) {
+        return kept(Refusal::Seats, at);
+    }
+    if seats as u64 <= turn {
+        return kept(Refusal::Turn, at);
+    }
     let next = Some(next_turn(seats, turn));
     let mut at = at;
     let placed = fly(&laid, &mut at);
@@ -105,10 +111,5 @@ pub fn turned_away(s: &[u8], list: &[i64], seats: usize, turn: u64) -> RoundAnsw
     ensures told { told_placed result.placed ≡ served s.now list.now seats turn nobody }
     ensures next { told_next result.next ≡ turn_after s.now list.now seats turn }
 {
-    let nobody = Runner {
-        leg: 0,
-        offset: 0,
-        laps: 0,
-    };
-    serve(s, list, seats, turn, nobody).answer
+    serve(s, list, seats, turn, NOBODY).answer
 }

@@ -1,14 +1,19 @@
 -- `read`: the course's three numbers are written, or a refusal's number is given.
-use Rattle.std.proofs.Common.{◌∙◌, refl, ap, [], ◌∷◌, rules}
+use Rattle.std.proofs.Common.{◌∙◌, ap, sym, [], ◌∷◌, ℕ, pos}
 use Rattle.ends.specs.Ends.{kind_number}
-use Rattle.sheet.specs.Answers.{Told, told}
-use Rattle.sheet.specs.declared.Course.{Course}
-use Rattle.boundary.specs.Written.{unsigned, written_unsigned}
-use Rattle.boundary.proofs.Told.{told_written}
+use Rattle.sheet.specs.Answers.{told}
+use Rattle.sheet.specs.Reading.{read_by}
+use Rattle.boundary.specs.Written.{put, unsigned}
+use Rattle.boundary.proofs.Told.{done_written, kept_written}
 use Rattle.boundary.proofs.read.Goals as goal
 
-pub returns-clause-out : goal.returns-clause-out
-returns-clause-out c =
-    told_written unsigned (λ (k : Course). kind_number k.kind ∷ k.points ∷ k.ticks ∷ []) told (λ x. (refl, refl), λ r. refl) c.read_by.result c.map.result c.map.ensures.cases
-    (λ x v p. search rules) _ _ c.tell.ensures.out
-    ∙ ap (λ (t : Told). written_unsigned t c.args.out.now) c.read_by.ensures
+pub returns-in-Ok-clause-out : goal.returns-in-Ok-clause-out
+returns-in-Ok-clause-out c =
+    let k = c.in-Ok.course in let out = c.args.out.now in
+    c.put.ensures ∙ ap (λ (n : ℕ). put (n ∷ k.points ∷ k.ticks ∷ []) out) c.from.ensures
+    ∙ done_written unsigned (told (read_by c.args.limit c.args.sheet.now)) out (pos (kind_number k.kind) ∷ pos k.points ∷ pos k.ticks ∷ [])
+    (sym c.read_by.ensures ∙ ap told c.in-Ok.is)
+
+pub returns-in-Err-clause-out : goal.returns-in-Err-clause-out
+returns-in-Err-clause-out c =
+    kept_written unsigned (told (read_by c.args.limit c.args.sheet.now)) c.args.out.now c.in-Err.refusal (sym c.read_by.ensures ∙ ap told c.in-Err.is)

@@ -1,12 +1,13 @@
 -- `tell_place`: three numbers are written, or a refusal's number is given.
-use Rattle.std.proofs.Common.{refl, rules}
+use Rattle.std.proofs.Common.{◌∙◌, ap}
 use Rattle.place.specs.Places.{told_placed}
-use Rattle.place.specs.declared.Place.{Place}
 use Rattle.boundary.specs.Written.{signed}
-use Rattle.boundary.proofs.Told.{told_written}
+use Rattle.boundary.proofs.Told.{done_written, kept_written}
 use Rattle.boundary.proofs.tell_place.Goals as goal
 
-pub returns-clause-out : goal.returns-clause-out
-returns-clause-out c =
-    told_written signed (λ (place : Place). place.at) told_placed (λ x. (refl, refl), λ r. refl) c.args.answer c.map.result c.map.ensures.cases
-    (λ x v p. search rules) _ _ c.tell.ensures.out
+pub returns-in-Ok-clause-out : goal.returns-in-Ok-clause-out
+returns-in-Ok-clause-out c =
+    c.put.ensures ∙ done_written signed (told_placed c.args.answer) c.args.out.now c.in-Ok.place.at (ap told_placed c.in-Ok.is)
+
+pub returns-in-Err-clause-out : goal.returns-in-Err-clause-out
+returns-in-Err-clause-out c = kept_written signed (told_placed c.args.answer) c.args.out.now c.in-Err.refusal (ap told_placed c.in-Err.is)

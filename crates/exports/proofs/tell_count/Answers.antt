@@ -1,11 +1,13 @@
 -- `tell_count`: one number is written, or a refusal's number is given.
-use Rattle.std.proofs.Common.{refl, [], ◌∷◌, ℕ, rules}
+use Rattle.std.proofs.Common.{◌∙◌, ap, [], ◌∷◌, pos}
 use Rattle.answers.specs.Answers.{told_count}
 use Rattle.boundary.specs.Written.{unsigned}
-use Rattle.boundary.proofs.Told.{told_written}
+use Rattle.boundary.proofs.Told.{done_written, kept_written}
 use Rattle.exports.proofs.tell_count.Goals as goal
 
-pub returns-clause-out : goal.returns-clause-out
-returns-clause-out c =
-    told_written unsigned (λ (n : ℕ). n ∷ []) told_count (λ x. (refl, refl), λ r. refl) c.args.answer c.map.result c.map.ensures.cases
-    (λ x v p. search rules) _ _ c.tell.ensures.out
+pub returns-in-Ok-clause-out : goal.returns-in-Ok-clause-out
+returns-in-Ok-clause-out c =
+    c.put.ensures ∙ done_written unsigned (told_count c.args.answer) c.args.out.now (pos c.in-Ok.count ∷ []) (ap told_count c.in-Ok.is)
+
+pub returns-in-Err-clause-out : goal.returns-in-Err-clause-out
+returns-in-Err-clause-out c = kept_written unsigned (told_count c.args.answer) c.args.out.now c.in-Err.refusal (ap told_count c.in-Err.is)
