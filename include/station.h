@@ -25,8 +25,8 @@
  * [measured]
  *   format:           elf64-x86-64, for Linux (System V calls)
  *   outside symbols:  memmove memset
- *   code:             13515 bytes with constants, data 0, zeroed data 0
- *   deepest stack:    7392 bytes (read 292, lay_out 448, place_at_tick 496, place_of_runner 480, runner_at_tick 308, step 308, back 308, write 136, join 360, round 448, strokes 7392)
+ *   code:             13823 bytes with constants, data 0, zeroed data 0
+ *   deepest stack:    7368 bytes (read 288, lay_out 464, place_at_tick 500, place_of_runner 516, runner_at_tick 304, step 304, back 304, write 128, join 456, round 596, strokes 7368)
  * [/measured]
  */
 #ifndef STATION_H

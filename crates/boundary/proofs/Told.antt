@@ -1,8 +1,6 @@
 -- What is told of an answer decides what is written: its values where it has some, and nothing where it is a refusal.
 use mathlib.Core.Path.{◌≡◌, refl, sym, ap, ◌∙◌}
-use mathlib.Core.Bool.{cond}
 use mathlib.Core.List.{List, [], ◌∷◌}
-use lib.Dec.{eqb}
 use lib.IntN.{ℤ, pos}
 use Rattle.answers.proofs.Guards.{refused_keeps}
 use Rattle.sheet.specs.Answers.{Told, refused}

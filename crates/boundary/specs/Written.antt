@@ -1,6 +1,6 @@
 -- What an exported function leaves in the slice that is lent for its results, and step and back of a runner that is lent as a slice. For boundary, exports and board.
 use Rattle.std.specs.Prelude.{◌≡◌, cond, List, ◌++◌, map, ℕ, eqb, leb, ◌≤◌, ◌<◌, ℤ, nat_abs, length, drop, get_or, Result, Ok, Err}
-use Rattle.sheet.specs.Answers.{Told, refused, number_of}
+use Rattle.sheet.specs.Answers.{Told, refused}
 use Rattle.sheet.specs.Reading.{read_by}
 use Rattle.sheet.specs.declared.Refusal.{Refusal}
 use Rattle.sheet.specs.declared.Refusal.TheVariants.{Adrift}

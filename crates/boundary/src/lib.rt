@@ -53,7 +53,8 @@ pub fn lay_out(limit: usize, sheet: &[u8], list: &mut [i64]) -> u64
     }
 }
 
-// The place into the slice, or the refusal's number.
+// The place into the slice, or the refusal's number. (A match for each kind of answer: by one function over an array in a `Result` an answer goes through
+// memory once more, and a place at N = 3 took a twentieth longer.)
 pub fn tell_place(answer: Result<Place, Refusal>, out: &mut [i64]) -> u64
     ensures answer { result ≡ (told_placed answer).number }
     ensures out { out.new ≡ written (told_placed answer) out.old }

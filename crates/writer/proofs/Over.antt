@@ -1,12 +1,11 @@
 -- Bytes put over a slice's from a place on (specs/Inside): one run of bytes behind another, a copied part; and the lowest bytes of a number. For the proofs of put, here and in join.
 use mathlib.Core.Path.{◌≡◌, refl, sym, ap, ◌∙◌}
 use mathlib.Core.List.{List, [], ◌++◌, append_assoc, append-nil}
-use Prim.Native.Nat.{ℕ, zero, suc, ◌+◌, ◌-◌, ◌≤◌}
-use native.Mathlib.Nat.{add-zero, zero-add}
+use Prim.Native.Nat.{ℕ, zero, suc, ◌+◌, ◌≤◌}
+use native.Mathlib.Nat.{add-zero}
 use native.Mathlib.Omega.{arith}
 use lib.ListN.{length, take, drop, length-append, length-drop, take-append-drop}
 use lib.Seq.{take_at, drop_at, drop-drop, length-take-le}
-use Rattle.std.proofs.lemmas.List.{take_all}
 use Rattle.std.specs.Int.{bytes_high_first}
 use Rattle.writer.specs.Inside.{over}
 
@@ -55,13 +54,3 @@ module _ (s : List ℕ) (from : ℕ) (l : List ℕ) (at k : ℕ) {i j : ℕ} (is
 pub length_high : (k x : ℕ) → length (bytes_high_first k x) ≡ k
 length_high zero x = refl
 length_high (suc k) x = ap suc (length_high k x)
-
-end_high : (j k x : ℕ) → drop j (bytes_high_first (j + k) x) ≡ bytes_high_first k x
-end_high zero k x = ap (λ n. bytes_high_first n x) (zero-add k)
-end_high (suc j) k x = let e : suc j + k ≡ suc (j + k) = omega arith in ap (λ n. drop (suc j) (bytes_high_first n x)) e ∙ end_high j k x
-
-pub low_bytes : (k x : ℕ) → k ≤ 8 → take k (drop (8 - k) (bytes_high_first 8 x)) ≡ bytes_high_first k x
-low_bytes k x few =
-    let all : 8 ≡ 8 - k + k = omega arith in
-    ap (take k) (ap (λ n. drop (8 - k) (bytes_high_first n x)) all ∙ end_high (8 - k) k x)
-    ∙ take_all k (bytes_high_first k x) (omega (arith, length_high k x))

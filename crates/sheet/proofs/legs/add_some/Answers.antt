@@ -1,5 +1,5 @@
 -- `add_some`: one leg more in the sum and in the flag.
-use Rattle.std.proofs.Common.{◌≡◌, ◌+◌, ◌||◌, ◌∙◌, ℕ, ap, refl, sym, arith}
+use Rattle.std.proofs.Common.{◌+◌, ◌||◌, ◌∙◌, ℕ, ap, refl, sym, arith}
 use Rattle.sheet.specs.Bytes.{any_below, sum_below}
 use Rattle.sheet.specs.Fields.{leg}
 use Rattle.sheet.specs.Reading.{leg_outside}
@@ -18,13 +18,3 @@ loop-i-preserved c =
       sum = omega (arith, is, sum_step g l.i, l.invariant.sum);
       flag = (λ j. l.invariant.flag j || (c.leg_outside-outside.ensures ∙ ap leg_outside (c.from.ensures ∙ is)) j) ∙ sym (any_step (λ k. leg_outside (g k)) l.i);
     }
-
-pub returns-then-outside : goal.returns-then-outside
-returns-then-outside c =
-    let l = c.loop-i in let e : l.i ≡ c.args.count = omega arith in
-    ap (any_below (λ k. leg_outside (leg c.args.s.now (c.args.from + k)))) (sym e) ∙ sym l.invariant.flag ∙ c.if-outside.true
-
-pub returns-else-outside : goal.returns-else-outside
-returns-else-outside c =
-    let l = c.loop-i in let h : ℕ → ℕ = λ k. leg c.args.s.now (c.args.from + k) in let e : l.i ≡ c.args.count = omega arith in
-    (ap (any_below (λ k. leg_outside (h k))) (sym e) ∙ sym l.invariant.flag ∙ c.if-outside.false, l.invariant.sum ∙ ap (sum_below h) e, omega (arith, l.invariant.small))

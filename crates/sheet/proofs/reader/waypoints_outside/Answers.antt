@@ -24,8 +24,3 @@ returns-then-waypoint_outside c =
     let s = c.args.s.now in
     sym (any_one (outside_at s c.args.from) c.args.count c.loop-i.i (omega arith) (sym c.waypoint_outside.ensures ∙ c.if-waypoint_outside.true))
     ∙ moved s c.args.count c.requires.0
-
-pub returns : goal.returns
-returns c =
-    let s = c.args.s.now in let e : c.loop-i.i ≡ c.args.count = omega arith in
-    sym c.loop-i.invariant.none ∙ ap (any_below (outside_at s c.args.from)) e ∙ moved s c.args.count c.requires.0
