@@ -1,7 +1,7 @@
 // The stand's program (T1 to T4): one sheet on standard input, its course or its refusal on standard output.
 #![tactic(auto)]
 
-ghost use Rattle.std.specs.Prelude.{◌≡◌, ◌+◌, ◌≤◌, length, IfOk, IfSome};
+ghost use Rattle.std.specs.Prelude.{◌≡◌, ◌+◌, ◌≤◌, length, IfOk, IfErr, IfSome, MatchResult};
 ghost use Rattle.output.specs.Output.{output};
 ghost use Rattle.output.specs.Pieces.{PartAt};
 
@@ -14,18 +14,28 @@ const MOST_BENDS: usize = 1536;
 // How many bytes are put together before they are written.
 const PIECE: usize = 65536;
 
+// A write that failed: how many bytes of the output are handed over, and why no more.
+#[derive(Drop)]
+struct Unsent {
+    bytes: usize,
+    cause: io::Error,
+}
+
 // Writes a part of the output, the one that starts after the `sent` bytes before it, and answers how many bytes are handed over then.
-fn hand_part(rt: &impl Print, input: &[u8], sent: usize, part: &[u8]) -> io::Result<usize>
+fn hand_part(rt: &impl Print, input: &[u8], sent: usize, part: &[u8]) -> Result<usize, Unsent>
     requires { PartAt (output input.now) sent part.now }
-    ensures { IfOk result (λ n. n ≡ sent + length part.now) }
+    ensures { MatchResult result (λ n. n ≡ sent + length part.now) (λ e. e.bytes ≡ sent) }
 {
-    rt.write_all(part)?;
-    Ok(sent + part.len())
+    match rt.write_all(part) {
+        Ok(()) => Ok(sent + part.len()),
+        Err(cause) => Err(Unsent { bytes: sent, cause }),
+    }
 }
 
 // Hands the output over, piece after piece: all of it, unless a write fails. (A `while`: no count of pieces is known before.)
-fn hand_over(rt: &impl Print, input: &[u8]) -> io::Result<usize>
-    ensures { IfOk result (λ n. n ≡ length (output input.now)) }
+fn hand_over(rt: &impl Print, input: &[u8]) -> Result<usize, Unsent>
+    ensures whole { IfOk result (λ n. n ≡ length (output input.now)) }
+    ensures part { IfErr result (λ e. e.bytes ≤ length (output input.now)) }
 {
     let mut list = [0i64; MOST_BENDS];
     let mut out = [0u8; PIECE];
@@ -64,7 +74,7 @@ fn main(rt: HostRuntime) {
     };
     if let Err(e) = hand_over(&rt, &input[..n]) {
         // Where nobody reads on there is nothing to say.
-        if e.kind() != ErrorKind::BrokenPipe {
+        if e.cause.kind() != ErrorKind::BrokenPipe {
             let _ = eprintln!(rt; "stand: cannot write standard output");
         }
     }

@@ -12,5 +12,5 @@ loop-piece-preserved g c =
     c.put_lines-piece.new.out c.put_lines-piece.result.bytes c.put_lines-piece.result.next c.put_lines-piece.result.end
     (search rules) c.put_lines-piece.ensures.piece_of c.put_lines-piece.ensures.ends c.put_lines-piece.ensures.full
 
-pub returns : goal.returns
-returns g c = all_handed c.loop-piece.invariant (omega arith)
+pub returns-clause-whole : goal.returns-clause-whole
+returns-clause-whole g c = all_handed c.loop-piece.invariant (omega arith)
