@@ -4,9 +4,13 @@ use mathlib.Core.Path.{◌≡◌, refl, sym, ap, ◌∙◌, subst}
 use mathlib.Core.Bool.{Bool, false, ◌||◌, or-false, or_assoc}
 use mathlib.Core.List.{List, [], ◌∷◌, ◌++◌}
 use Prim.Native.Nat.{ℕ, zero, suc, ◌+◌, ◌*◌, ◌/◌, ◌<◌}
+use native.Mathlib.Nat.{add-mul}
 use native.Mathlib.Omega.{arith}
-use lib.ListN.{length, get_or}
+use lib.ListN.{length, get_or, take, drop}
 use Rattle.std.specs.List.{fold, list_any, enumerate_from}
+use Rattle.std.specs.Simd.{first_chunks}
+use Rattle.std.proofs.lemmas.List.{drop-drop, take-append-drop}
+use Rattle.std.proofs.lemmas.List.Folds.{list_any-append}
 use Rattle.std.specs.Slice.Iter.{chunks_exact_rest, chunks_exact_size, chunks_exact_steps}
 use Rattle.std.proofs.lemmas.Iterator.{YieldsList}
 use Rattle.std.proofs.lemmas.Iterator.Splits.{YieldsList-from_shown_while}
@@ -17,6 +21,9 @@ any_first : (p : ℕ → Bool) (n : ℕ) → any_below p (suc n) ≡ (p 0 || any
 unfolding any_below
 any_first p zero = sym (or-false (p 0))
 any_first p (suc n) = ap (λ b. b || p (suc n)) (any_first p n) ∙ or_assoc (p 0) (any_below (λ i. p (suc i)) n) (p (suc n))
+
+once_more : (n k : ℕ) → suc k * n ≡ n + k * n
+once_more n k = omega (arith, add-mul k 1 n)
 
 module _ {A : Type 0} where
   pub any_is : (test : A → Bool) (xs : List A) (d : A) → list_any test xs ≡ any_below (λ i. test (get_or xs i d)) (length xs)
@@ -31,6 +38,26 @@ module _ {A : Type 0} where
 
   pub folded_is : (test : A → Bool) (xs : List A) (d : A) → fold (λ (c : Bool) x. c || test x) false xs ≡ any_below (λ i. test (get_or xs i d)) (length xs)
   folded_is test xs d = gathered test false xs ∙ any_is test xs d
+
+  -- .. of a list's blocks of n, k of them, and of what is left behind these
+  behind : (n k : ℕ) (xs : List A) → drop (suc k * n) xs ≡ drop (k * n) (drop n xs)
+  behind n k xs = ap (λ m. drop m xs) (once_more n k) ∙ sym (drop-drop (k * n) n xs)
+
+  blocks_any : (test : A → Bool) (n k : ℕ) (xs : List A) → (list_any (list_any test) (first_chunks n k xs) || list_any test (drop (k * n) xs)) ≡ list_any test xs
+  blocks_any test n zero xs = let none : 0 * n ≡ 0 = omega arith in λ z. list_any test (drop (none z) xs)
+  blocks_any test n (suc k) xs =
+      or_assoc (list_any test (take n xs)) (list_any (list_any test) (first_chunks n k (drop n xs))) (list_any test (drop (suc k * n) xs))
+      ∙ ap (λ l. list_any test (take n xs) || (list_any (list_any test) (first_chunks n k (drop n xs)) || list_any test l)) (behind n k xs)
+      ∙ ap (λ b. list_any test (take n xs) || b) (blocks_any test n k (drop n xs))
+      ∙ sym (list_any-append test (take n xs) (drop n xs))
+      ∙ ap (list_any test) (take-append-drop n xs)
+
+  pub blocks_is : (test : A → Bool) (n k : ℕ) (xs : List A) (d : A)
+      → (list_any (λ (w : List A). any_below (λ i. test (get_or w i d)) (length w)) (first_chunks n k xs) || any_below (λ i. test (get_or (drop (k * n) xs) i d)) (length (drop (k * n) xs)))
+      ≡ any_below (λ i. test (get_or xs i d)) (length xs)
+  blocks_is test n k xs d =
+      let back : (w : List A) → any_below (λ i. test (get_or w i d)) (length w) ≡ list_any test w = λ w. sym (any_is test w d) in
+      (λ z. list_any (λ w. back w z) (first_chunks n k xs) || back (drop (k * n) xs) z) ∙ blocks_any test n k xs ∙ any_is test xs d
 
   -- of the elements with their places, the first at n
   enumerated_from : (test : ℕ → A → Bool) (xs : List A) (d : A) (n : ℕ)

@@ -11,12 +11,20 @@ use crate::LentLists;
 use ends::EndKind;
 use sheet::{MOST_POINTS, Refusal};
 
-// N6, of all legs. (By `fold`, which goes on past one that is outside: so the compiler takes several at a time, and `any` takes nearly three times as long.)
-fn legs_outside(legs: &[u64]) -> bool
+// N6, of some legs. (By `fold`, which goes on past one that is outside: so the compiler takes several at a time, and `any` takes nearly three times as long.)
+fn some_outside(legs: &[u64]) -> bool
     ensures { result ≡ some_leg_outside legs.now }
 {
     legs.iter()
         .fold(false, |some, leg| some | sheet::leg_outside(*leg))
+}
+
+// N6, of all legs: by sixteens, so that the test returns at the first sixteen that have one outside.
+fn legs_outside(legs: &[u64]) -> bool
+    ensures { result ≡ some_leg_outside legs.now }
+{
+    let (sixteens, rest) = legs.as_chunks::<16>();
+    sixteens.iter().any(|block| some_outside(block)) || some_outside(rest)
 }
 
 // N7, of one waypoint: north, east and up.
