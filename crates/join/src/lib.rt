@@ -17,7 +17,10 @@ use sheet::{MOST_POINTS, Refusal};
 fn is_shut(kind: EndKind) -> bool
     ensures { result ≡ is_shut kind }
 {
-    kind != EndKind::Free
+    match kind {
+        EndKind::Free => false,
+        EndKind::Held | EndKind::Closed => true,
+    }
 }
 
 // Writes the joined sheet at the slice's front (J1). Tests 1 to 8 of the first sheet, then of the second, 16, 17, 18, and 14 last; a refused call leaves the
