@@ -55,6 +55,5 @@ pub fn stepped(s: &[u8], at: Runner) -> Result<Runner, Refusal>
 pub fn step(s: &[u8], r: &mut Runner) -> Result<(), Refusal>
     ensures { (told_outcome result ≡ bare (stepped_by board_points s.now r.old)) × (r.new ≡ onward_by board_points s.now r.old) }
 {
-    *r = stepped(s, *r)?;
-    Ok(())
+    runner::step_by(BOARD_POINTS, s, r)
 }

@@ -2,11 +2,13 @@
 #![tactic(auto)]
 
 mod backs;
+mod records;
 mod steps;
 mod ticks;
 
 pub use backs::{back, backed};
-pub use steps::{is_adrift, is_landed, moved, step, stepped, stepped_by};
+pub use records::{RunnerOutcome, back_record, onward_by, step_record};
+pub use steps::{is_adrift, is_landed, moved, step, step_by, stepped, stepped_by};
 pub use ticks::{is_past, runner_at_tick, runner_at_tick_by, spot_at};
 
 // M1: which leg, the first being 0, how many ticks along it, and the laps flown.

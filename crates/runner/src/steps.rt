@@ -3,7 +3,7 @@ ghost use Rattle.std.specs.Prelude.{◌≡◌, false, ◌<◌};
 ghost use Rattle.sheet.specs.Fields.{legs};
 ghost use Rattle.answers.specs.Answers.{told_outcome, bare};
 ghost use Rattle.runner.specs.Ticks.{told_runner};
-ghost use Rattle.runner.specs.Steps.{off_legs, adrift, next_lap, landed, moved, stepped, stepped_by, onward};
+ghost use Rattle.runner.specs.Steps.{off_legs, adrift, next_lap, landed, moved, stepped, stepped_by, onward, onward_by};
 
 use crate::Runner;
 use crate::ticks::is_open;
@@ -104,10 +104,17 @@ pub fn stepped(s: &[u8], at: Runner) -> Result<Runner, Refusal>
     stepped_by(MOST_POINTS, s, at)
 }
 
-// M2: the step over a lent record (F7). Tests 1 to 8, 11 and 13; a refused one leaves the record alone (A9).
+// M2: the step over a lent record (F7), on sheets with up to `limit` waypoints. Tests 1 to 8, 11 and 13; a refused one leaves the record alone (A9).
+pub fn step_by(limit: usize, s: &[u8], r: &mut Runner) -> Result<(), Refusal>
+    ensures { (told_outcome result ≡ bare (stepped_by limit s.now r.old)) × (r.new ≡ onward_by limit s.now r.old) }
+{
+    *r = stepped_by(limit, s, *r)?;
+    Ok(())
+}
+
+// The station's.
 pub fn step(s: &[u8], r: &mut Runner) -> Result<(), Refusal>
     ensures { (told_outcome result ≡ bare (stepped s.now r.old)) × (r.new ≡ onward s.now r.old) }
 {
-    *r = stepped(s, *r)?;
-    Ok(())
+    step_by(MOST_POINTS, s, r)
 }
