@@ -2,6 +2,7 @@
 #![tactic(auto)]
 
 mod numbers;
+mod pair;
 
 ghost use Rattle.std.specs.Prelude.{◌≡◌};
 ghost use Rattle.place.specs.Places.{told_placed};
@@ -9,6 +10,7 @@ ghost use Rattle.seat.specs.Serving.{told_next};
 ghost use Rattle.fleet.specs.Round.{round_answer, turn_given, fleet_after};
 
 pub use numbers::round_numbers;
+pub use pair::{PairOutcome, round_pair};
 use runner::Runner;
 use seat::{RoundAnswer, serve, turned_away};
 
