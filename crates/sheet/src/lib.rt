@@ -11,7 +11,7 @@ mod refusals;
 pub use bytes::{read_signed, read16};
 pub use fields::{end_of, leg_length, slope_on, waypoint_on};
 pub use limits::{leg_outside, reach_outside, slope_outside};
-pub use reader::{read, read_by, read_with_sums, sheet_length};
+pub use reader::{kind_of, read, read_by, read_with_sums, sheet_length};
 
 // N4: the largest N.
 pub const MOST_POINTS: usize = 512;

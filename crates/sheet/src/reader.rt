@@ -13,6 +13,18 @@ use crate::limits::{bits_outside, slope_outside};
 use crate::{Course, LONGEST_SHEET, MOST_POINTS, Refusal, SUMS};
 use ends::EndKind;
 
+// S4: the kind of a byte, whichever it is: 0, 1 and 2 are the three kinds' own, and any other is taken for the last. (The reader goes by `try_from`, which tells
+// these apart for N3.)
+pub fn kind_of(byte: u8) -> EndKind
+    ensures { result ≡ kind_of byte }
+{
+    match byte {
+        0 => EndKind::Free,
+        1 => EndKind::Held,
+        _ => EndKind::Closed,
+    }
+}
+
 // S9: the bytes of a sheet. For lists too.
 pub fn sheet_length(kind: EndKind, points: usize) -> usize
     requires { (1 ≤ points) × (points < 65536) }
