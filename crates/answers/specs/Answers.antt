@@ -35,3 +35,7 @@ guard false r rest = rest
 abbrev pub Answered : Reading → List ℕ → Result OpenSheet Refusal → Type 0
 Answered reading s (Ok sheet) = (sheet.bytes.now ≡ s) × (reading ≡ read_course sheet.kind sheet.points sheet.ticks)
 Answered reading s (Err r) = reading ≡ Err r
+
+-- r is the refusal that reading's answer carries, if it carries one: what `refusal_of` promises
+abbrev pub Carries : Reading → Refusal → Type 0
+Carries answer r = (q : Refusal) → answer ≡ Err q → r ≡ q

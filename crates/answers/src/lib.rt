@@ -4,12 +4,12 @@
 mod opened;
 
 ghost use Rattle.std.specs.Prelude.{◌≡◌, length};
-ghost use Rattle.answers.specs.Answers.{Answered};
+ghost use Rattle.answers.specs.Answers.{Answered, Carries};
 ghost use Rattle.sheet.specs.Carried.{CarriedBy, most_sums};
 ghost use Rattle.sheet.specs.Reading.{read_by};
 
 pub use opened::OpenSheet;
-use sheet::{Refusal, SUMS};
+use sheet::{Course, Refusal, SUMS};
 
 // A2: reads the sheet, by a reader of up to `limit` waypoints.
 #[inline(always)]
@@ -38,4 +38,14 @@ pub fn open_with_sums<'a>(
         points: course.points,
         ticks: course.ticks,
     })
+}
+
+// The refusal that a reader's answer carries. Nothing is promised of a course. (The calls that open a sheet take `unwrap_err`, which asks that there is one.)
+pub fn refusal_of(reading: Result<Course, Refusal>) -> Refusal
+    ensures { Carries reading result }
+{
+    match reading {
+        Err(r) => r,
+        Ok(_) => Refusal::Torn,
+    }
 }
