@@ -5,17 +5,23 @@ ghost use Rattle.sheet.specs.Reading.{Accepted};
 
 use ends::EndKind;
 
-// Its bytes, and its N, kind and P. (In this order, since the compiler moves N and P at once where they are neighbours, and then waits for both.)
+// Its bytes, and its N and kind. (In this order, since the compiler moves N and the P of `TimedSheet` at once where they are neighbours, and then waits for both.)
 #[derive(Clone, Copy)]
 pub struct OpenSheet<'a> {
     pub bytes: &'a [u8],
     pub points: usize,
     pub kind: EndKind,
-    pub ticks: u64,
     pub ghost accepted: { Accepted bytes.now },
     pub ghost is_points: { points ≡ points_in bytes.now },
     pub ghost is_kind: { kind ≡ kind_in bytes.now },
-    pub ghost is_ticks: { ticks ≡ ticks_in bytes.now },
+}
+
+// The same with its P, which is known once all legs were added up (P7).
+#[derive(Clone, Copy)]
+pub struct TimedSheet<'a> {
+    pub sheet: OpenSheet<'a>,
+    pub ticks: u64,
+    pub ghost is_ticks: { ticks ≡ ticks_in sheet.bytes.now },
 }
 
 impl<'a> OpenSheet<'a> {
