@@ -25,6 +25,18 @@ pub struct TimedSheet<'a> {
 }
 
 impl<'a> OpenSheet<'a> {
+    // A10: of a sheet that is known to be accepted, with no refusal left: kind and N stand in its head (S4, S5). For a caller who was handed no open sheet.
+    pub fn of_accepted(s: &'a [u8]) -> OpenSheet<'a>
+        requires { Accepted s.now }
+        ensures { result.bytes.now ≡ s.now }
+    {
+        OpenSheet {
+            bytes: s,
+            points: sheet::read16(s, 6) as usize,
+            kind: EndKind::try_from(u64::from(s[5])).unwrap(),
+        }
+    }
+
     // S6: L.
     #[inline(always)]
     pub fn legs(&self) -> usize
