@@ -41,7 +41,8 @@ pub fn begin(input: &[u8], list: &mut [i64], out: &mut [u8]) -> Piece
     if LONGEST_SHEET < input.len() {
         return refused(out, Refusal::Torn);
     }
-    let reading = answers::open(MOST_POINTS, input);
+    let mut sums = [0u32; sheet::SUMS];
+    let reading = answers::open_with_sums(MOST_POINTS, input, &mut sums);
     let Ok(sheet) = reading else {
         return refused(out, reading.unwrap_err());
     };

@@ -51,14 +51,14 @@ pub fn place_at_tick_by(limit: usize, s: &[u8], list: &[i64], tick: u64) -> Resu
 {
     let mut sums = [0u32; SUMS];
     let reading = answers::open_with_sums(limit, s, &mut sums);
-    let Ok(sheet) = reading else {
+    let Ok(timed) = reading else {
         return Err(reading.unwrap_err());
     };
-    let laid = Laid::on(sheet, list)?;
-    if runner::is_past(sheet.kind, sheet.ticks, tick) {
+    let laid = Laid::on(timed.sheet, list)?;
+    if runner::is_past(timed.sheet.kind, timed.ticks, tick) {
         return Err(Refusal::Past);
     }
-    let at = runner::spot_at(&sheet, &sums, tick);
+    let at = runner::spot_at(&timed, &sums, tick);
     place_at(&laid, at)
 }
 

@@ -6,7 +6,7 @@ ghost use Rattle.sheet.specs.Fields.{legs, leg};
 ghost use Rattle.runner.specs.Ticks.{is_open, reduced, laps_in, at_lap, walk, spot_at, runner_at_tick, runner_at_tick_by, told_runner};
 
 use crate::Runner;
-use answers::OpenSheet;
+use answers::{OpenSheet, TimedSheet};
 use ends::EndKind;
 use sheet::{MOST_POINTS, Refusal, STRIDE, SUMS};
 
@@ -94,12 +94,13 @@ fn leg_from(sheet: &OpenSheet<'_>, first: usize, before: u64, tick: u64, laps: u
 
 // The leg and offset of a tick, reduced first, with its laps; reading left the sums.
 #[tactic(auto, using(crate::proofs::Room::bounds), unfolding(crate::specs::Ticks::spot_at))]
-pub fn spot_at(sheet: &OpenSheet<'_>, sums: &[u32; SUMS], tick: u64) -> Runner
-    requires { Carried sheet.now.bytes.now (legs sheet.now.bytes.now) sums.now }
-    ensures { result ≡ spot_at sheet.now.bytes.now tick }
+pub fn spot_at(timed: &TimedSheet<'_>, sums: &[u32; SUMS], tick: u64) -> Runner
+    requires { Carried timed.now.sheet.bytes.now (legs timed.now.sheet.bytes.now) sums.now }
+    ensures { result ≡ spot_at timed.now.sheet.bytes.now tick }
 {
-    let here = reduced(sheet.kind, sheet.ticks, tick);
-    let laps = laps_in(sheet.kind, sheet.ticks, tick);
+    let sheet = &timed.sheet;
+    let here = reduced(sheet.kind, timed.ticks, tick);
+    let laps = laps_in(sheet.kind, timed.ticks, tick);
     let b = sixteenth_at(sheet, sums, here);
     leg_from(sheet, STRIDE * b, u64::from(sums[b]), here, laps)
 }
@@ -111,13 +112,13 @@ pub fn runner_at_tick_by(limit: usize, s: &[u8], tick: u64) -> Result<Runner, Re
 {
     let mut sums = [0u32; SUMS];
     let reading = answers::open_with_sums(limit, s, &mut sums);
-    let Ok(sheet) = reading else {
+    let Ok(timed) = reading else {
         return Err(reading.unwrap_err());
     };
-    if is_past(sheet.kind, sheet.ticks, tick) {
+    if is_past(timed.sheet.kind, timed.ticks, tick) {
         return Err(Refusal::Past);
     }
-    Ok(spot_at(&sheet, &sums, tick))
+    Ok(spot_at(&timed, &sums, tick))
 }
 
 // The station's.

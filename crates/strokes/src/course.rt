@@ -30,7 +30,7 @@ impl Drawing<'_> {
     fn has_room(&self, room: usize) -> bool
         ensures { result ≡ leb (length (stroke_ends self.now.laid.sheet.bytes.now self.now.laid.list.now self.now.tolerance)) room }
     {
-        if self.laid.sheet.ticks < room as u64 {
+        if self.ticks < room as u64 {
             return true;
         }
         let mut nowhere = [0u64; 1];

@@ -11,7 +11,7 @@ ghost use Rattle.strokes.specs.Strokes.{grain_outside, any_bend, strokes_answer,
 
 use drawing::Drawing;
 use place::Laid;
-use sheet::{MOST_POINTS, Refusal};
+use sheet::{MOST_POINTS, Refusal, SUMS};
 
 // N21, in millimetres.
 pub const MOST_TOLERANCE: i64 = 1000;
@@ -35,11 +35,12 @@ pub fn strokes(s: &[u8], list: &[i64], tolerance: i64, ends: &mut [u64]) -> Resu
     ensures told { told_count result ≡ strokes_answer s.now list.now tolerance (length ends.old) }
     ensures ends { ends.new ≡ drawn_into s.now list.now tolerance ends.old }
 {
-    let reading = answers::open(MOST_POINTS, s);
-    let Ok(sheet) = reading else {
+    let mut sums = [0u32; SUMS];
+    let reading = answers::open_with_sums(MOST_POINTS, s, &mut sums);
+    let Ok(timed) = reading else {
         return Err(reading.unwrap_err());
     };
-    let laid = Laid::on(sheet, list)?;
+    let laid = Laid::on(timed.sheet, list)?;
     if grain_outside(tolerance) {
         return Err(Refusal::Grain);
     }
@@ -49,6 +50,7 @@ pub fn strokes(s: &[u8], list: &[i64], tolerance: i64, ends: &mut [u64]) -> Resu
     // (A cast, and no `try_from`: 21 has let no other number through.)
     let drawing = Drawing {
         laid,
+        ticks: timed.ticks,
         tolerance: tolerance as u64,
     };
     drawing.draw(ends)

@@ -1,7 +1,7 @@
 -- `lay_out_by`: the reader's answer tells whether the sheet is refused or accepted, and then the list's length decides.
 use Rattle.std.proofs.Common.{◌≡◌, ◌*◌, ◌≤◌, ◌<◌, ◌∙◌, ◌++◌, ℕ, List, ℤ, Result, Err, length, drop, sym, ap, subst, arith}
 use Rattle.sheet.specs.Answers.{read_course, refused}
-use Rattle.sheet.specs.Fields.{points}
+use Rattle.sheet.specs.Fields.{points, ticks}
 use Rattle.sheet.specs.Reading.{read_by, Accepted}
 use Rattle.sheet.specs.declared.Refusal.{Refusal}
 use Rattle.sheet.specs.declared.Refusal.TheVariants.{Shelf}
@@ -27,7 +27,7 @@ returns-in_default-clause-list c =
     sym (refused_list a.limit a.s.now a.list.now r (refused_answer a.limit a.s.now (length a.list.now) r (refused_read a.limit a.s.now c.open-reading.ensures c.unwrap_err.ensures)))
 
 -- where the sheet is open, and a list is lent
-module _ (limit : ℕ) (s : List ℕ) (sheet : OpenSheet) (read : read_by limit s ≡ read_course sheet.kind sheet.points sheet.ticks) (list : List ℤ) where
+module _ (limit : ℕ) (s : List ℕ) (sheet : OpenSheet) (read : read_by limit s ≡ read_course sheet.kind sheet.points (ticks s)) (list : List ℤ) where
   accepted : Accepted s × (sheet.points ≡ points s) × (points s ≤ limit)
   accepted = let (a, same_kind, same_points, same_ticks, within) = read_accepted limit s _ _ _ read in (a, same_points, within)
 

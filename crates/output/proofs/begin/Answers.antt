@@ -3,6 +3,7 @@ use Rattle.std.proofs.Common.{◌≡◌, ◌∙◌, sym, ap, arith, rules}
 use Rattle.std.specs.Prelude.{Err}
 use Rattle.sheet.specs.declared.Refusal.TheVariants.{Torn}
 use Rattle.sheet.proofs.Laws.{accepted_bounds}
+use Rattle.sheet.specs.Fields.{ticks}
 use Rattle.layout.specs.Layout.{laid_out}
 use Rattle.output.proofs.Begun.{torn_output, read_output, refused_piece, header_piece, header_answered}
 use Rattle.output.proofs.begin.Goals as goal
@@ -17,18 +18,18 @@ returns-in_default-clause-piece_of c =
     let input = c.args.input.now in let r = c.unwrap_err.result in
     let same : c.in_default.field-0 ≡ r = cc in
     refused_piece input c.args.list.now c.refused-in_default.new.out c.refused-in_default.result.bytes r c.refused-in_default.result.next c.refused-in_default.result.end
-    c.refused-in_default.ensures (read_output input (omega arith) (Err r) (sym (rw same at c.in_default.ensures)))
+    c.refused-in_default.ensures (read_output input (omega arith) (Err r) (sym (rw same at c.in_default.ensures.answer)))
 
 pub overflow_add-result : goal.overflow_add-result
-overflow_add-result c = record { fits = omega (arith, (accepted_bounds c.in-Ok.sheet.bytes.now c.in-Ok.sheet.accepted).few_ticks, c.in-Ok.sheet.is_ticks) }
+overflow_add-result c = let o = c.in-Ok.sheet in record { fits = omega (arith, (accepted_bounds o.sheet.bytes.now o.sheet.accepted).few_ticks, o.is_ticks) }
 
 pub returns-clause-piece_of : goal.returns-clause-piece_of
 returns-clause-piece_of c =
-    let input = c.args.input.now in let sheet = c.in-Ok.sheet in
-    header_piece input c.lay_out.new.list _ c.push.new.self.len sheet.kind sheet.points sheet.ticks (omega arith) c.in-Ok.ensures.1
-    (c.lay_out.ensures.list ∙ ap (laid_out input) c.requires.0) (search rules) (search rules) (omega arith)
+    let input = c.args.input.now in let o = c.in-Ok.sheet in let e = c.in-Ok.ensures.answer in let all = o.is_ticks ∙ ap ticks e.0 in
+    header_piece input c.lay_out.new.list _ c.push.new.self.len o.sheet.kind o.sheet.points (ticks input) (omega arith) e.1
+    (c.lay_out.ensures.list ∙ ap (laid_out input) c.requires.0) (search rules) (search rules) (omega (arith, all))
 
 pub returns-clause-answered : goal.returns-clause-answered
 returns-clause-answered c =
-    let input = c.args.input.now in let sheet = c.in-Ok.sheet in
-    header_answered input c.lay_out.new.list sheet.kind sheet.points sheet.ticks c.in-Ok.ensures.1 (c.lay_out.ensures.list ∙ ap (laid_out input) c.requires.0) (omega arith)
+    let input = c.args.input.now in let o = c.in-Ok.sheet in let e = c.in-Ok.ensures.answer in let all = o.is_ticks ∙ ap ticks e.0 in
+    header_answered input c.lay_out.new.list o.sheet.kind o.sheet.points (ticks input) e.1 (c.lay_out.ensures.list ∙ ap (laid_out input) c.requires.0) (omega (arith, all))

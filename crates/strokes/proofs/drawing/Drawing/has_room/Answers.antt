@@ -10,4 +10,4 @@ pub returns-then-self-room : goal.returns-then-self-room
 returns-then-self-room c =
     let d = c.args.self.now in let o = d.laid.sheet in let s = o.bytes.now in
     sym (le-leb (length (stroke_ends s d.laid.list.now d.tolerance)) c.args.room
-    (omega (arith, o.is_ticks, few_below s o.accepted d.laid.list.now d.tolerance (legs_of s) (omega arith))))
+    (omega (arith, d.is_ticks, few_below s o.accepted d.laid.list.now d.tolerance (legs_of s) (omega arith))))
