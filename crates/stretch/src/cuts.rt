@@ -2,8 +2,9 @@
 ghost use Rattle.std.specs.Prelude.{◌≡◌, ◌+◌, ◌<◌, ◌≤◌, length, set};
 ghost use Rattle.std.proofs.lemmas.List.Edits.{sets};
 ghost use Rattle.stretch.specs.Stretches.{ends_of};
-ghost use Rattle.stretch.specs.Asked.{tabled};
+ghost use Rattle.stretch.specs.Asked.{tabled, flat, FlatStretch, Counted};
 
+use crate::MOST_PLACES;
 use crate::piece::{Stretch, TabledLeg};
 
 // An end at place n of the list, where the list has that place. It is counted in any case, so that a short list can be used for counting.
@@ -45,4 +46,28 @@ impl TabledLeg<'_> {
         let middle = self.cut(start, half, ends, n);
         self.cut(start + half, ticks - half, ends, middle)
     }
+}
+
+// H3: the same of a leg whose places stand in one slice, 257 for each axis; more may follow. `from` is the tick at which the leg starts. (The slice is read where it stands.)
+pub fn cut(
+    places: &[i64],
+    tolerance: u64,
+    from: usize,
+    start: usize,
+    ticks: usize,
+    ends: &mut [u64],
+    n: usize,
+) -> usize
+    requires { FlatStretch places.now tolerance start ticks × Counted from start ticks n }
+    ensures count { result ≡ n + length (ends_of tolerance (flat places.now) from start ticks) }
+    ensures ends { ends.new ≡ sets ends.old n (ends_of tolerance (flat places.now) from start ticks) }
+{
+    let (axes, _) = places.as_chunks::<MOST_PLACES>();
+    let leg = TabledLeg {
+        places: axes.first_chunk().unwrap(),
+        tolerance,
+        from,
+        ticks: start + ticks,
+    };
+    leg.cut(start, ticks, ends, n)
 }

@@ -5,7 +5,7 @@ mod cuts;
 mod piece;
 mod test;
 
-pub use cuts::put_end;
+pub use cuts::{cut, put_end};
 pub use piece::TabledLeg;
 
 // The places of one axis in the table: a leg of 256 ticks has 257.
