@@ -10,7 +10,7 @@ mod rows;
 mod seen;
 mod sheets;
 
-ghost use Rattle.std.specs.Prelude.{◌<◌, ◌≤◌};
+ghost use Rattle.std.specs.Prelude.{◌<◌, ◌≤◌, length, IfOk};
 
 use drawing::Drawing;
 use ends::EndKind;
@@ -21,10 +21,10 @@ use std::io::Read;
 // How many sheets of each kind are made.
 const MADE: u64 = 1000;
 
-// How many bytes of the worked courses are read at most.
-const MOST_READ: u64 = 65536;
+// How many bytes of the worked courses are read at most. (Into an array, as for `sheets::ROOM`.)
+const MOST_READ: usize = 65536;
 
-// Adds the sheets that stand one after another in a text.
+// Adds the sheets that stand one after another in a text. (A `while`: where the next begins each one says itself.)
 fn add_worked(seen: &mut Seen, text: &[u8]) {
     let mut rest = text;
     while rest.len() >= 8 {
@@ -39,12 +39,14 @@ fn add_worked(seen: &mut Seen, text: &[u8]) {
 }
 
 // The line of one kind.
-fn show<R: Print + Alloc>(rt: &R, name: &str, kind: EndKind, worked: &[u8]) -> io::Result<()> {
+fn show(rt: &impl Print, name: &str, kind: EndKind, worked: &[u8]) -> io::Result<()> {
     let mut seen = Seen::none(kind);
     add_worked(&mut seen, worked);
     let mut drawing = Drawing::START;
+    let mut room = [0; sheets::ROOM];
     for _ in 0..MADE {
-        seen.add(&sheets::make(rt.alloc(), &mut drawing, kind)?);
+        let length = sheets::make(&mut room, &mut drawing, kind);
+        seen.add(&room[..length]);
     }
     let sheets = seen.sheets;
     // in thousandths of an eighth, rounded up: it is written as in 7.043; one too large for that is written as 0
@@ -62,10 +64,27 @@ fn show<R: Print + Alloc>(rt: &R, name: &str, kind: EndKind, worked: &[u8]) -> i
     )
 }
 
+// Reads until the buffer is full or the input ends, and answers how many bytes. (A `while`: how far a read comes it says itself, and std's `read_to_end`
+// would want a heap.)
+fn read_full(from: &mut impl Read, buffer: &mut [u8]) -> io::Result<usize>
+    ensures { IfOk result (λ n. n ≤ length buffer.new) }
+{
+    let mut done = 0;
+    while done < buffer.len() {
+        let n = from.read(&mut buffer[done..])?;
+        if n == 0 {
+            break;
+        }
+        done += n;
+    }
+    Ok(done)
+}
+
 fn main(rt: HostRuntime) -> io::Result<()> {
-    let mut worked = Vec::new(rt.alloc());
-    rt.stdin().take(MOST_READ).read_to_end(&mut worked)?;
-    show(&rt, "free", EndKind::Free, &worked)?;
-    show(&rt, "held", EndKind::Held, &worked)?;
-    show(&rt, "closed", EndKind::Closed, &worked)
+    let mut input = [0; MOST_READ];
+    let n = read_full(&mut rt.stdin(), &mut input)?;
+    let worked = &input[..n];
+    show(&rt, "free", EndKind::Free, worked)?;
+    show(&rt, "held", EndKind::Held, worked)?;
+    show(&rt, "closed", EndKind::Closed, worked)
 }

@@ -1,9 +1,11 @@
 // Made sheets, accepted ones of one kind: size, legs and numbers drawn at random.
-ghost use Rattle.std.specs.Prelude.{◌<◌, ◌≤◌};
+ghost use Rattle.std.specs.Prelude.{◌+◌, ◌*◌, ◌≤◌, length};
 
 use crate::drawing::Drawing;
 use ends::EndKind;
-use std::alloc::{AllocError, Allocator};
+
+// The room for a sheet. (An array and no `Vec`: without a heap nothing more is assumed, and all is printed whatever memory there is.)
+pub const ROOM: usize = 7200;
 
 // How far below 0 and above it a number may lie.
 #[derive(Clone, Copy)]
@@ -64,49 +66,68 @@ fn size_of(drawn: u32) -> u16
     }
 }
 
-// Writes a number for each of the spans.
-fn put_numbers<A: Allocator>(
-    sheet: &mut Vec<u8, A>,
+// S8: the slopes of a held sheet.
+fn slope_count(kind: EndKind) -> usize
+    ensures { result ≤ 6 }
+{
+    match kind {
+        EndKind::Held => 6,
+        EndKind::Free | EndKind::Closed => 0,
+    }
+}
+
+// Writes bytes from `at` on.
+fn put(sheet: &mut [u8], at: usize, bytes: &[u8])
+    requires { at + length bytes.now ≤ length sheet.old }
+{
+    sheet[at..at + bytes.len()].copy_from_slice(bytes);
+}
+
+// Writes a number for each of the spans, from `start` on.
+fn put_numbers(
+    sheet: &mut [u8],
+    start: usize,
     drawing: &mut Drawing,
     spans: &[Span],
     ends_alone: bool,
-) -> Result<(), AllocError> {
-    for span in spans {
+)
+    requires { start + 4 * length spans.now ≤ length sheet.old }
+{
+    for (i, span) in spans.iter().enumerate() {
         let number = picked(drawing.next(), span.below + span.above, ends_alone);
-        sheet.extend_from_slice(&(number as i32 - span.below as i32).to_be_bytes())?;
+        let signed = number as i32 - span.below as i32;
+        put(sheet, start + 4 * i, &signed.to_be_bytes());
     }
-    Ok(())
 }
 
-// Makes an accepted sheet of a kind. Every third one has all its numbers at the ends of their range.
-pub fn make<A: Allocator + Drop>(
-    alloc: A,
-    drawing: &mut Drawing,
-    kind: EndKind,
-) -> Result<Vec<u8, A>, AllocError> {
+// Makes an accepted sheet of a kind, and answers its length. Every third one has all its numbers at the ends of their range.
+pub fn make(sheet: &mut [u8], drawing: &mut Drawing, kind: EndKind) -> usize
+    requires { 7200 ≤ length sheet.old }
+    ensures { result ≤ 7200 }
+{
     let first = drawing.next();
     let ends_alone = first % 3 == 0;
     let points = size_of(first);
-    let legs = ends::leg_count(kind, usize::from(points)) as u16;
-    let slopes = match kind {
-        EndKind::Held => 6,
-        EndKind::Free | EndKind::Closed => 0,
-    };
+    let legs = ends::leg_count(kind, usize::from(points));
+    let slopes = slope_count(kind);
     // (One number is left out.)
     drawing.next();
-    let mut sheet = Vec::new(alloc);
-    let length = 8 + 2 * legs + 12 * points + 4 * slopes;
-    sheet.extend_from_slice(&u32::from(length).to_be_bytes())?;
-    sheet.extend_from_slice(&[1, u64::from(kind) as u8])?;
-    sheet.extend_from_slice(&points.to_be_bytes())?;
-    for _ in 0..legs {
-        sheet.extend_from_slice(&leg_of(drawing.next(), first / 3 % 4).to_be_bytes())?;
+    let waypoints = 8 + 2 * legs;
+    let end = waypoints + 12 * usize::from(points);
+    let length = end + 4 * slopes;
+    put(sheet, 0, &(length as u32).to_be_bytes());
+    put(sheet, 4, &[1, u64::from(kind) as u8]);
+    put(sheet, 6, &points.to_be_bytes());
+    for i in 0..legs {
+        let leg = leg_of(drawing.next(), first / 3 % 4);
+        put(sheet, 8 + 2 * i, &leg.to_be_bytes());
     }
-    for _ in 0..points {
-        put_numbers(&mut sheet, drawing, &[PLANE, PLANE, HEIGHT], ends_alone)?;
+    for i in 0..usize::from(points) {
+        let spans = [PLANE, PLANE, HEIGHT];
+        put_numbers(sheet, waypoints + 12 * i, drawing, &spans, ends_alone);
     }
-    for _ in 0..slopes {
-        put_numbers(&mut sheet, drawing, &[SLOPE], ends_alone)?;
+    for i in 0..slopes {
+        put_numbers(sheet, end + 4 * i, drawing, &[SLOPE], ends_alone);
     }
-    Ok(sheet)
+    length
 }

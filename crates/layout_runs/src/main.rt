@@ -3,7 +3,6 @@
 
 ghost use Rattle.std.specs.Prelude.{◌<◌};
 
-use std::alloc::{AllocError, Allocator};
 use std::io;
 
 // Lays a sheet out in a list, and prints the list. (What is answered is not asked: a refused sheet would show by its sevens.)
@@ -22,7 +21,7 @@ fn show(rt: &impl Print, name: &str, s: &[u8], list: &mut [i64]) -> io::Result<(
 // place takes the change along all waypoints; 40 passes that read only the pass before do not.
 const HEAD: [u8; 8] = [0, 0, 2, 180, 1, 0, 0, 49];
 
-fn chain_value(axis: u32, i: u32) -> u32
+fn chain_value(axis: usize, i: usize) -> usize
     requires { i < 49 }
     ensures { result < 65536 }
 {
@@ -34,17 +33,21 @@ fn chain_value(axis: u32, i: u32) -> u32
     }
 }
 
-fn chain_sheet<A: Allocator>(alloc: A) -> Result<Vec<u8, A>, AllocError> {
-    let mut s = Vec::from_array(alloc, HEAD)?;
-    for _ in 0..48 {
-        s.extend_from_slice(&256u16.to_be_bytes())?;
+// (An array and no `Vec`: without a heap nothing more is assumed, and all is printed whatever memory there is.)
+fn chain_sheet() -> [u8; 692] {
+    let mut s = [0; 692];
+    s[..8].copy_from_slice(&HEAD);
+    for i in 0..48 {
+        let at = 8 + 2 * i;
+        s[at..at + 2].copy_from_slice(&256u16.to_be_bytes());
     }
     for i in 0..49 {
         for axis in 0..3 {
-            s.extend_from_slice(&chain_value(axis, i).to_be_bytes())?;
+            let at = 104 + 12 * i + 4 * axis;
+            s[at..at + 4].copy_from_slice(&(chain_value(axis, i) as u32).to_be_bytes());
         }
     }
-    Ok(s)
+    s
 }
 
 // Each has its comment, its name and its sheet.
@@ -105,5 +108,5 @@ fn main(rt: HostRuntime) -> io::Result<()> {
     for (name, s) in COURSES {
         show(&rt, name, s, &mut [7; 16])?;
     }
-    show(&rt, "chain:", &chain_sheet(rt.alloc())?, &mut [7; 148])
+    show(&rt, "chain:", &chain_sheet(), &mut [7; 148])
 }

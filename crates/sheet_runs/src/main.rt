@@ -6,7 +6,7 @@ mod build;
 mod cases;
 mod tell;
 
-use build::{plain, put};
+use build::{ROOM, plain, put};
 use cases::{changed, faults, whole};
 use ends::EndKind;
 use std::io;
@@ -28,24 +28,21 @@ fn main(rt: HostRuntime) -> io::Result<()> {
 }
 
 // N1: too few bytes, or another count than the sheet states.
-fn short<R: Print + Alloc>(rt: &R) -> io::Result<()> {
+fn short(rt: &impl Print) -> io::Result<()> {
     tell(rt, "empty", &[])?;
     tell(rt, "seven bytes", &[0; 7])?;
     tell(rt, "eight zeros", &[0; 8])?;
-    let mut sheet = plain(rt.alloc(), EndKind::Free, 3)?;
-    tell(rt, "whole", &sheet)?;
-    if let Some((_, rest)) = sheet.split_last() {
-        tell(rt, "a byte missing", rest)?;
-    }
-    sheet.push(0)?;
-    tell(rt, "a byte more", &sheet)?;
-    sheet.pop();
-    put(&mut sheet, 0, &[1]);
-    tell(rt, "length with its top byte set", &sheet)
+    let mut room = [0; ROOM];
+    let size = plain(&mut room, EndKind::Free, 3);
+    tell(rt, "whole", &room[..size])?;
+    tell(rt, "a byte missing", &room[..size - 1])?;
+    tell(rt, "a byte more", &room[..size + 1])?;
+    put(&mut room, 0, &[1]);
+    tell(rt, "length with its top byte set", &room[..size])
 }
 
 // N2 and N3.
-fn heads<R: Print + Alloc>(rt: &R) -> io::Result<()> {
+fn heads(rt: &impl Print) -> io::Result<()> {
     changed(rt, "version 0", EndKind::Held, 3, 4, &[0])?;
     changed(rt, "version 2", EndKind::Held, 3, 4, &[2])?;
     changed(rt, "version 255", EndKind::Held, 3, 4, &[255])?;
@@ -54,7 +51,7 @@ fn heads<R: Print + Alloc>(rt: &R) -> io::Result<()> {
 }
 
 // N4, free: 2 to 512.
-fn free_sizes<R: Print + Alloc>(rt: &R) -> io::Result<()> {
+fn free_sizes(rt: &impl Print) -> io::Result<()> {
     whole(rt, "free, N = 0", EndKind::Free, 0)?;
     whole(rt, "free, N = 1", EndKind::Free, 1)?;
     whole(rt, "free, N = 2", EndKind::Free, 2)?;
@@ -65,7 +62,7 @@ fn free_sizes<R: Print + Alloc>(rt: &R) -> io::Result<()> {
 }
 
 // N4, held: 2 to 512, and 513 is not torn though it has 7,212 bytes; closed: 3 to 512. Then N with its top byte set.
-fn other_sizes<R: Print + Alloc>(rt: &R) -> io::Result<()> {
+fn other_sizes(rt: &impl Print) -> io::Result<()> {
     whole(rt, "held, N = 1", EndKind::Held, 1)?;
     whole(rt, "held, N = 2", EndKind::Held, 2)?;
     whole(rt, "held, N = 512", EndKind::Held, 512)?;
@@ -79,7 +76,7 @@ fn other_sizes<R: Print + Alloc>(rt: &R) -> io::Result<()> {
 }
 
 // N6: a leg is 1 to 256, the closing leg too. The first stands at byte 8.
-fn legs<R: Print + Alloc>(rt: &R) -> io::Result<()> {
+fn legs(rt: &impl Print) -> io::Result<()> {
     changed(rt, "leg 1", EndKind::Free, 3, 8, &1u16.to_be_bytes())?;
     changed(rt, "leg 256", EndKind::Free, 3, 8, &256u16.to_be_bytes())?;
     changed(rt, "leg 257", EndKind::Free, 3, 8, &257u16.to_be_bytes())?;
@@ -135,7 +132,7 @@ fn legs<R: Print + Alloc>(rt: &R) -> io::Result<()> {
 }
 
 // N7 on north and east: -1,000,000 to 1,000,000. A free sheet's first waypoint stands at byte 12, a held one's second at byte 24.
-fn plan<R: Print + Alloc>(rt: &R) -> io::Result<()> {
+fn plan(rt: &impl Print) -> io::Result<()> {
     changed(
         rt,
         "north 1,000,000",
@@ -220,7 +217,7 @@ fn plan<R: Print + Alloc>(rt: &R) -> io::Result<()> {
 }
 
 // N7 on up: -50,000 to 120,000. A closed sheet's first waypoint stands at byte 14, its last one at byte 38.
-fn heights<R: Print + Alloc>(rt: &R) -> io::Result<()> {
+fn heights(rt: &impl Print) -> io::Result<()> {
     changed(
         rt,
         "up 120,000",
@@ -320,7 +317,7 @@ fn heights<R: Print + Alloc>(rt: &R) -> io::Result<()> {
 }
 
 // N8: each slope is -5,000 to 5,000. The first stands at byte 48.
-fn slopes<R: Print + Alloc>(rt: &R) -> io::Result<()> {
+fn slopes(rt: &impl Print) -> io::Result<()> {
     changed(
         rt,
         "start north 5,000",
