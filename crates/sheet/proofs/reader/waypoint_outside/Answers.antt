@@ -1,5 +1,5 @@
--- `waypoint_outside`: one test for each axis, and the first that holds tells.
-use Rattle.std.proofs.Common.{◌≡◌, ◌∙◌, ℕ, Bool, ap, refl, sym}
+-- `waypoint_outside`: one test for each axis.
+use Rattle.std.proofs.Common.{◌≡◌, ◌∙◌, ℕ, Bool, ap}
 use Rattle.sheet.specs.Bytes.{signed32}
 use Rattle.sheet.specs.Reading.{reach_outside}
 use Rattle.sheet.proofs.Numbers.{any_axis}
@@ -9,17 +9,7 @@ use Rattle.sheet.proofs.reader.waypoint_outside.Goals as goal
 asked : (axis : ℕ) {n m : ℕ} {a : Bool} → a ≡ reach_outside axis (signed32 n) → n ≡ m → a ≡ reach_outside axis (signed32 m)
 asked axis e f = e ∙ ap (λ (k : ℕ). reach_outside axis (signed32 k)) f
 
-pub returns-then-bits_outside : goal.returns-then-bits_outside
-returns-then-bits_outside c =
-    any_axis reach_outside c.args.s.now c.args.at (sym c.if-bits_outside.true ∙ asked 0 c.bits_outside.ensures c.read32.ensures.0) refl refl
-
-pub returns-then-bits_outside-2 : goal.returns-then-bits_outside-2
-returns-then-bits_outside-2 c =
-    any_axis reach_outside c.args.s.now c.args.at (sym c.if-bits_outside.false ∙ asked 0 c.bits_outside.ensures c.read32.ensures.0)
-    (sym c.if-bits_outside-2.true ∙ asked 1 c.bits_outside-2.ensures c.read32-2.ensures.0) refl
-
 pub returns : goal.returns
 returns c =
-    any_axis reach_outside c.args.s.now c.args.at (sym c.if-bits_outside.false ∙ asked 0 c.bits_outside.ensures c.read32.ensures.0)
-    (sym c.if-bits_outside-2.false ∙ asked 1 c.bits_outside-2.ensures c.read32-2.ensures.0)
+    any_axis reach_outside c.args.s.now c.args.at (asked 0 c.bits_outside.ensures c.read32.ensures.0) (asked 1 c.bits_outside-2.ensures c.read32-2.ensures.0)
     (asked 2 c.bits_outside-3.ensures c.read32-3.ensures.0)
