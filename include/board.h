@@ -11,8 +11,8 @@
  * [measured]
  *   format:           elf64-x86-64, for Linux (System V calls)
  *   outside symbols:  memset
- *   code:             6087 bytes with constants, data 0, zeroed data 0
- *   deepest stack:    516 bytes (read 304, lay_out 464, place_at_tick 500, place_of_runner 516, runner_at_tick 320, step 304)
+ *   code:             6614 bytes with constants, data 0, zeroed data 0
+ *   deepest stack:    452 bytes (read 304, lay_out 448, place_at_tick 452, place_of_runner 452, runner_at_tick 320, step 304)
  * [/measured]
  */
 #ifndef BOARD_H
