@@ -11,9 +11,6 @@ use Rattle.std.specs.List.{fold, list_any, enumerate_from}
 use Rattle.std.specs.Simd.{first_chunks}
 use Rattle.std.proofs.lemmas.List.{drop-drop, take-append-drop}
 use Rattle.std.proofs.lemmas.List.Folds.{list_any-append}
-use Rattle.std.specs.Slice.Iter.{chunks_exact_rest, chunks_exact_size, chunks_exact_steps}
-use Rattle.std.proofs.lemmas.Iterator.{YieldsList}
-use Rattle.std.proofs.lemmas.Iterator.Splits.{YieldsList-from_shown_while}
 use Rattle.sheet.specs.Bytes.{any_below}
 
 -- asked of 0, and of the next n
@@ -96,24 +93,11 @@ module _ {A : Type 0} where
       ap (λ b. p 0 || b) (threes_is test xs d ∙ ap (λ q. any_below q (length xs / 3)) (λ k i. any_below (λ j. test j (get_or all (next i j k) d)) 3))
       ∙ sym (ap (any_below p) count ∙ any_first p (length xs / 3))
 
-  threes_none : (xs : List A) → length xs < 3 → length (threes xs) ≡ 0
-  threes_none [] h = refl
-  threes_none (x ∷ []) h = refl
-  threes_none (x ∷ y ∷ []) h = refl
-  threes_none (x ∷ y ∷ z ∷ xs) h = absurd (omega arith)
-
-  threes_more : (three xs : List A) → length three ≡ 3 → threes (three ++ xs) ≡ three ∷ threes xs
-  threes_more [] xs e = absurd (omega arith)
-  threes_more (x ∷ []) xs e = absurd (omega arith)
-  threes_more (x ∷ y ∷ []) xs e = absurd (omega arith)
-  threes_more (x ∷ y ∷ z ∷ []) xs e = refl
-  threes_more (w ∷ x ∷ y ∷ z ∷ k) xs e = absurd (omega arith)
-
-  -- `chunks_exact(3)` gives them
-  pub YieldsList-from_threes : {s : _} (xs : List A) → chunks_exact_rest {T = A} s ≡ xs → chunks_exact_size s ≡ 3
-      → YieldsList chunks_exact_steps (λ x. x.now) s (threes xs)
-  YieldsList-from_threes {s} xs e size =
-      subst (λ l. YieldsList chunks_exact_steps (λ x. x.now) s (threes l)) e
-      (YieldsList-from_shown_while chunks_exact_steps (λ x. x.now) (λ t. threes (chunks_exact_rest t)) (λ t. chunks_exact_size t ≡ 3)
-      (λ a b three n. threes_none (chunks_exact_rest a) (omega (arith, three, n.1.0)))
-      (λ a x b three n. (n.0 ∙ three, ap threes n.1.0 ∙ threes_more x.now (chunks_exact_rest b) (n.1.1 ∙ three))) s size)
+  -- `as_chunks::<3>` gives them
+  pub chunks_threes : (xs : List A) → first_chunks 3 (length xs / 3) xs ≡ threes xs
+  chunks_threes [] = refl
+  chunks_threes (x ∷ []) = refl
+  chunks_threes (x ∷ y ∷ []) = refl
+  chunks_threes (x ∷ y ∷ z ∷ xs) =
+      let all = x ∷ y ∷ z ∷ xs in let count : length all / 3 ≡ suc (length xs / 3) = omega arith in
+      ap (λ k. first_chunks 3 k all) count ∙ ap (λ l. (x ∷ y ∷ z ∷ []) ∷ l) (chunks_threes xs)

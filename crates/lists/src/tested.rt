@@ -24,24 +24,24 @@ fn legs_outside(legs: &[u64]) -> bool
     ensures { result ≡ some_leg_outside legs.now }
 {
     let (sixteens, rest) = legs.as_chunks::<16>();
-    sixteens.iter().any(|block| some_outside(block)) || some_outside(rest)
+    sixteens.iter().any(|block| some_outside(block))
+        || rest.iter().any(|leg| sheet::leg_outside(*leg))
 }
 
-// N7, of one waypoint: north, east and up.
-fn waypoint_outside(waypoint: &[i64]) -> bool
+// N7, of one waypoint: north, east and up. (Each by its own limits: by `any` over the three a sheet of three waypoints took a tenth longer to write.)
+fn waypoint_outside(waypoint: &[i64; 3]) -> bool
     ensures { result ≡ any_below (λ axis. reach_outside axis (get_or waypoint.now axis (pos 0))) (length waypoint.now) }
 {
-    waypoint
-        .iter()
-        .enumerate()
-        .any(|(axis, z)| sheet::reach_outside(axis, *z))
+    sheet::reach_outside(0, waypoint[0])
+        | sheet::reach_outside(1, waypoint[1])
+        | sheet::reach_outside(2, waypoint[2])
 }
 
 // N7, of all waypoints; numbers behind the last whole waypoint are not asked.
 fn waypoints_outside(waypoints: &[i64]) -> bool
     ensures { result ≡ some_reach_outside waypoints.now }
 {
-    waypoints.chunks_exact(3).any(waypoint_outside)
+    waypoints.as_chunks::<3>().0.iter().any(waypoint_outside)
 }
 
 // N8, of all slopes.

@@ -1,15 +1,14 @@
--- `waypoint_outside`: the question of a list with its places, put as the definition puts it.
-use Rattle.std.proofs.Common.{◌∙◌, ℕ, ℤ, pos, rules, tests}
-use Rattle.std.proofs.lemmas.Iterator.{YieldsList-from_slice}
-use Rattle.std.proofs.lemmas.Iterator.Consumers.{YieldsList-from_enumerate}
-use Rattle.std.proofs.lemmas.Iterator.Search.{any_from_yields_List}
+-- `waypoint_outside`: a number of each axis.
+use Rattle.std.proofs.Common.{◌≡◌, ◌∙◌, ◌||◌, pos, length, get_or, ap, sym, rules}
+use Rattle.sheet.specs.Bytes.{any_below}
 use Rattle.sheet.specs.Reading.{reach_outside}
-use Rattle.lists.proofs.Questions.{enumerated_is}
 use Rattle.lists.proofs.tested.waypoint_outside.Goals as goal
 
 pub returns : goal.returns
+unfolding any_below
 returns c =
-    let waypoint = c.args.waypoint.now in
-    any_from_yields_List (λ (p : ℕ × ℤ). reach_outside p.0 p.1) _ _ c.any.result c.any.ensures.ran (YieldsList-from_enumerate (YieldsList-from_slice waypoint cc) cc)
-    (λ x b q k. search (rules, tests))
-    ∙ enumerated_is reach_outside waypoint (pos 0)
+    let w = c.args.waypoint.now in let three : length w ≡ 3 = c.told-waypoint in
+    let north : c.reach_outside.result ≡ reach_outside 0 (get_or w 0 (pos 0)) = search rules in
+    let east : c.reach_outside-2.result ≡ reach_outside 1 (get_or w 1 (pos 0)) = search rules in
+    let up : c.reach_outside-3.result ≡ reach_outside 2 (get_or w 2 (pos 0)) = search rules in
+    (λ j. north j || east j || up j) ∙ ap (any_below (λ axis. reach_outside axis (get_or w axis (pos 0)))) (sym three)
