@@ -25,8 +25,8 @@
  * [measured]
  *   format:           elf64-x86-64, for Linux (System V calls)
  *   outside symbols:  memmove memset
- *   code:             14432 bytes with constants, data 0, zeroed data 0
- *   deepest stack:    7368 bytes (read 288, lay_out 448, place_at_tick 452, place_of_runner 452, runner_at_tick 304, step 304, back 304, write 152, join 440, round 580, strokes 7368)
+ *   code:             14282 bytes with constants, data 0, zeroed data 0
+ *   deepest stack:    7368 bytes (read 288, lay_out 448, place_at_tick 452, place_of_runner 452, runner_at_tick 304, step 304, back 304, write 144, join 440, round 580, strokes 7368)
  * [/measured]
  */
 #ifndef STATION_H
